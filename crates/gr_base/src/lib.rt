@@ -1,0 +1,16 @@
+// Numbers, shared texts, lists, names and faults: what every other crate speaks of.
+#![tactic(auto)]
+
+mod bytes;
+mod fault;
+mod list;
+mod memory;
+mod name;
+mod numbers;
+
+pub use bytes::Bytes;
+pub use fault::{Fault, FaultKind, fault_text};
+pub use list::{Ids, ListOf, Texts};
+pub use memory::NoMemory;
+pub use name::is_name;
+pub use numbers::{ColumnNo, Limits, RecordId, SessionNo, TableNo};
