@@ -1,0 +1,74 @@
+// Files in memory, with the opens that are to fail.
+ghost use Rattle.std.specs.Prelude.{◌≡◌, Ok};
+ghost use Rattle.gr_outside.specs.NamedFiles.{filing_of};
+
+use super::memory_source::is_failing;
+use super::{Calls, Files, MemorySource, NamedFile, OpenFault};
+use gr_base::{ListOf, NoMemory};
+use std::alloc::Global;
+use std::marker::Model;
+
+/// Files in memory; of several of one name the first is opened.
+pub type NamedFiles = ListOf<NamedFile>;
+
+/// Files by name in memory. An open fails where the name is among no file's, or the open's number is among `failing`.
+#[derive(Drop)]
+pub struct MemoryFiles {
+    files: NamedFiles,
+    failing: Calls,
+    call: u64,
+    faults: u64,
+}
+
+impl Model for MemoryFiles {
+    ghost use Rattle.gr_outside.specs.NamedFiles.{Filing};
+
+    ghost Value = { Filing };
+
+    ghost view = { λ f. record { files = f.files; failing = f.failing; call = f.call; faults = f.faults } };
+}
+
+impl MemoryFiles {
+    /// These files, of which the opens of these numbers fail.
+    pub fn new(files: NamedFiles, failing: Calls) -> Result<MemoryFiles, NoMemory>
+        ensures { result ≡ Ok (filing_of files failing) }
+    {
+        Ok(MemoryFiles {
+            files,
+            failing,
+            call: 0,
+            faults: 0,
+        })
+    }
+}
+
+impl Files for MemoryFiles {
+    type File = MemorySource;
+
+    ghost use Rattle.gr_outside.specs.NamedFiles.{CanFailNamed, ReachesNamed, bytes_named};
+
+    ghost bytes_of = { bytes_named };
+
+    ghost pairs_of = { ReachesNamed };
+
+    ghost can_fail = { CanFailNamed };
+
+    ghost faults = { λ filing. filing.faults };
+
+    fn open(&mut self, alloc: Global, name: &str) -> Result<MemorySource, OpenFault> {
+        let fails = is_failing(self.failing.as_slice(), self.call);
+        self.call = self.call.saturating_add(1);
+        match self
+            .files
+            .as_slice()
+            .iter()
+            .find(|file| file.name.as_slice() == name.as_bytes())
+        {
+            Some(file) if !fails => file.source(alloc).map_err(|_| OpenFault::NoMemory),
+            _ => {
+                self.faults += 1;
+                Err(OpenFault::Failed)
+            }
+        }
+    }
+}

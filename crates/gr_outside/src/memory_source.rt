@@ -1,0 +1,93 @@
+// A source in memory, with the calls that are to fail.
+ghost use Rattle.std.specs.Prelude.{◌≡◌, ◌<◌, ◌≤◌, min, length, take};
+ghost use Rattle.gr_outside.specs.Memory.{is_failing, reading_from};
+
+use super::{Failed, Source};
+use gr_base::{Bytes, ListOf, NoMemory};
+use std::marker::Model;
+
+/// Numbers of calls, from 0.
+pub type Calls = ListOf<u64>;
+
+/// Bytes in memory, given in pieces of at most `largest`.
+#[derive(Drop)]
+pub struct MemorySource {
+    bytes: Bytes,
+    at: usize,
+    failing: Calls,
+    call: u64,
+    largest: usize,
+    faults: u64,
+}
+
+impl Model for MemorySource {
+    ghost use Rattle.std.specs.Prelude.{◌≤◌, ◌<◌, drop, length};
+    ghost use Rattle.gr_outside.specs.Memory.{Reading};
+
+    ghost Value = { Reading };
+
+    ghost view = { λ s. record { left = drop s.at s.bytes; failing = s.failing; call = s.call; largest = s.largest; faults = s.faults } };
+
+    ghost invariant = { λ s. (s.at ≤ length s.bytes) × (0 < s.largest) };
+}
+
+impl MemorySource {
+    /// A source of these bytes. The calls of these numbers fail, and each other gives at most `largest` bytes.
+    pub fn new(bytes: Bytes, failing: Calls, largest: usize) -> Result<MemorySource, NoMemory>
+        requires { 0 < largest }
+        ensures { result ≡ Ok (reading_from bytes failing largest) }
+    {
+        Ok(MemorySource {
+            bytes,
+            at: 0,
+            failing,
+            call: 0,
+            largest,
+            faults: 0,
+        })
+    }
+}
+
+impl Source for MemorySource {
+    ghost use Rattle.std.specs.Prelude.{Some};
+    ghost use Rattle.gr_outside.specs.Memory.{CanReach, reaches_at_once};
+
+    ghost left = { λ source. Some source.left };
+
+    ghost faults = { λ source. source.faults };
+
+    ghost reaches = { CanReach };
+
+    fn read(&mut self, room: &mut [u8]) -> Result<usize, Failed> {
+        let fails = is_failing(self.failing.as_slice(), self.call);
+        self.call = self.call.saturating_add(1);
+        if fails {
+            self.faults += 1;
+            return Err(Failed {
+                faults: self.faults,
+            });
+        }
+        let given = give(&self.bytes.as_slice()[self.at..], self.largest, room);
+        self.at += given;
+        Ok(given)
+    }
+
+    ghost reaches_now = { reaches_at_once };
+}
+
+// Moves as many bytes as the room, the largest piece and what is left allow.
+fn give(left: &[u8], largest: usize, room: &mut [u8]) -> usize
+    ensures amount { result ≡ min (length room.old) (min largest (length left.now)) }
+    ensures moved { take result room.new ≡ take result left.now }
+{
+    let given = room.len().min(largest.min(left.len()));
+    room[..given].copy_from_slice(&left[..given]);
+    given
+}
+
+// Whether the call of this number is to fail.
+pub(crate) fn is_failing(failing: &[u64], call: u64) -> bool
+    ensures { result ≡ is_failing failing.now call }
+{
+    failing.iter().any(|number| *number == call)
+}
