@@ -81,6 +81,10 @@ name_of BadSortKey = codes "BadSortKey"
 name_of TableFull = codes "TableFull"
 name_of JournalFull = codes "JournalFull"
 
+-- a fault that is told by a name alone
+abbrev pub fault_named : FaultKind → List ℕ → Fault
+fault_named kind name = record { kind = kind; row = None; at = None; name = name }
+
 -- a number under its label, where there is one
 abbrev pub labelled : List ℕ → Option ℕ → List ℕ
 labelled label None = []

@@ -1,6 +1,6 @@
 // Faults, as replies show them.
 ghost use Rattle.std.specs.Prelude.{◌≡◌, ◌++◌, IfOk, OnOk, IsUtf8, string_bytes};
-ghost use Rattle.gr_base.specs.Fault.{code_of, fault_text, labelled, name_of, spaced};
+ghost use Rattle.gr_base.specs.Fault.{code_of, fault_named, fault_text, labelled, name_of, spaced};
 
 use super::{Bytes, NoMemory};
 use std::alloc::Global;
@@ -144,6 +144,20 @@ pub struct Fault {
     pub at: Option<u64>,
     /// The name or the text that is wrong, or empty.
     pub name: Bytes,
+}
+
+impl Fault {
+    /// A fault that is told by a name alone, which may be empty.
+    pub fn named(kind: FaultKind, name: Bytes) -> Fault
+        ensures { result ≡ fault_named kind name }
+    {
+        Fault {
+            kind,
+            row: None,
+            at: None,
+            name,
+        }
+    }
 }
 
 /// The text of a fault: its name, its row, its place and its own name, each where it has one.

@@ -1,0 +1,4 @@
+pub mod Db
+pub mod Schema
+pub mod Entry
+pub mod State

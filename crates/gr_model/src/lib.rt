@@ -1,0 +1,11 @@
+// The journal's entries, what each does, and the state that they make.
+#![tactic(auto)]
+
+mod entry;
+mod journal;
+mod schema;
+mod state;
+
+pub use entry::{Change, Entry, TableWish};
+pub use journal::Journal;
+pub use state::{ApplyFault, State};

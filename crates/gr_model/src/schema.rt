@@ -1,0 +1,36 @@
+// The first fault of a wish for a table.
+ghost use Rattle.std.specs.Prelude.{◌≡◌, IfOk, map};
+ghost use Rattle.std.specs.List.{list_any};
+ghost use Rattle.gr_model.specs.Db.{is_same_text};
+ghost use Rattle.gr_model.specs.Schema.{reserved_names};
+
+const RESERVED_NAMES: [&str; 19] = [
+    "Bool",
+    "Int8",
+    "Int16",
+    "Int32",
+    "Int64",
+    "UInt8",
+    "UInt16",
+    "UInt32",
+    "UInt64",
+    "ShortText",
+    "Text",
+    "LongText",
+    "Float",
+    "Float32",
+    "Time",
+    "TokyoGeoPoint",
+    "WGS84GeoPoint",
+    "TokenDelimit",
+    "TokenBigram",
+];
+
+// Whether a name is that of a type or a tokenizer.
+pub(crate) fn is_reserved(name: &[u8]) -> bool
+    ensures { result ≡ list_any (is_same_text name.now) reserved_names }
+{
+    RESERVED_NAMES
+        .iter()
+        .any(|reserved| name == reserved.as_bytes())
+}
