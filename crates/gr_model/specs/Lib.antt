@@ -2,3 +2,4 @@ pub mod Db
 pub mod Schema
 pub mod Entry
 pub mod State
+pub mod Accepted
