@@ -1,5 +1,5 @@
 -- What an entry of the journal may be, and what it does.
-use Rattle.std.specs.Prelude.{◌≡◌, Option, Some, None, Result, Ok, Err, List, [], ◌∷◌, ◌++◌, fold, IsUtf8}
+use Rattle.std.specs.Prelude.{Option, List, [], ◌∷◌, ◌++◌, fold, IsUtf8}
 use Rattle.gr_base.specs.declared.fault.Fault.{Fault}
 use Rattle.gr_model.specs.Db.{Db, empty}
 use Rattle.gr_model.specs.Schema.{wish_fault}

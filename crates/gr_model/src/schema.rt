@@ -30,7 +30,12 @@ const RESERVED_NAMES: [&str; 19] = [
 pub(crate) fn is_reserved(name: &[u8]) -> bool
     ensures { result ≡ list_any (is_same_text name.now) reserved_names }
 {
-    RESERVED_NAMES
-        .iter()
-        .any(|reserved| name == reserved.as_bytes())
+    is_one_of(name, &RESERVED_NAMES)
+}
+
+// Whether a name is one of some texts.
+fn is_one_of(name: &[u8], texts: &[&str]) -> bool
+    ensures { result ≡ list_any (λ text. is_same_text name.now text.now) texts.now }
+{
+    texts.iter().any(|text| name == text.as_bytes())
 }
