@@ -36,7 +36,7 @@ pub struct Session {
 }
 
 impl Model for Session {
-    ghost use Rattle.std.specs.Prelude.{codes, is_none};
+    ghost use Rattle.std.specs.Prelude.{◌≡◌, codes, is_none};
     ghost use Rattle.std.specs.Option.{ForSome};
     ghost use Rattle.gr_session.specs.ReplyText.{want_of_memory_line};
     ghost use Rattle.gr_session.specs.Step.{Standing};
