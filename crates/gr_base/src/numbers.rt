@@ -30,6 +30,11 @@ pub struct Limits {
 }
 
 impl Default for Limits {
+    ghost use Rattle.std.specs.Prelude.{◌≡◌};
+    ghost use Rattle.gr_base.specs.Limits.{default_limits};
+
+    ghost is_default = { λ limits. limits ≡ default_limits };
+
     fn default() -> Limits {
         Limits {
             records: 1_048_576,

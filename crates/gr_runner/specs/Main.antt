@@ -1,0 +1,40 @@
+-- What the top call does with its words.
+use Rattle.std.specs.Prelude.{ℕ, ◌≡◌, ◌==◌, ◌<◌, if◌then◌else◌, Option, Some, None, List, [], ◌∷◌, Contains}
+use Rattle.gr_runner.specs.History.{sources_of}
+use Rattle.gr_runner.specs.Run.{Run}
+use Rattle.gr_runner.specs.declared.report.Report.{Report}
+use Rattle.gr_runner.specs.declared.status.Status.TheVariants.{Open, Usage}
+
+-- the phases of files that words name: one file, whose name does not begin with `-`
+abbrev pub phases_named : List (List ℕ) → Option (List (List (List ℕ)))
+phases_named [] = None
+phases_named ([] ∷ []) = Some (([] ∷ []) ∷ [])
+phases_named ((c ∷ cs) ∷ []) = if c == 45 then None else Some (((c ∷ cs) ∷ []) ∷ [])
+phases_named (first ∷ second ∷ others) = None
+
+-- nothing ran: no session, and no entry
+pub record IsNothingRun (report : Report) : Type 0 where
+  pub sessions : report.sessions ≡ []
+  pub journal : report.journal ≡ []
+
+-- the words are refused: nothing was opened, run or written
+pub record IsUsage {F K : Type 0} (report : Report) (files files_after : F) (sink sink_after : K) : Type 0 where
+  pub status : report.status ≡ Usage
+  pub nothing : IsNothingRun report
+  pub files_same : files_after ≡ files
+  pub sink_same : sink_after ≡ sink
+
+-- an open of a name that can fail has failed: nothing was run or written
+pub record IsNotOpened {K : Type 0} (can_fail : List ℕ → Type 0) (phases : List (List (List ℕ))) (report : Report) (faults faults_after : ℕ) (sink sink_after : K) : Type 0 where
+  pub status : report.status ≡ Open
+  pub nothing : IsNothingRun report
+  pub risen : faults < faults_after
+  pub name : List ℕ
+  pub named : Contains (sources_of phases) name
+  pub failing : can_fail name
+  pub sink_same : sink_after ≡ sink
+
+-- each file was opened, and they were run: what each name tells, and that its file began without faults
+pub record IsRun (told : List ℕ → Option (List ℕ)) (reaches : List ℕ → ℕ → ℕ → Type 0) (limit : ℕ) (phases : List (List (List ℕ))) (report : Report) (faults faults_after : ℕ) (before after : Option (List ℕ)) (write_failed : Type 0) : Type 0 where
+  pub opened : faults_after ≡ faults
+  pub run : Run told (λ _. 0) reaches limit phases report before after write_failed

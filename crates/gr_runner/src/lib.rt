@@ -1,0 +1,14 @@
+// Runs: sessions over the sources of each phase, their one journal, and what is written of their replies.
+#![tactic(auto)]
+
+mod commands;
+mod main_call;
+mod report;
+mod serial;
+mod status;
+mod write;
+
+pub use main_call::main_call;
+pub use report::{Dones, End, Report, SessionLog, SessionLogs};
+pub use serial::run_serial;
+pub use status::Status;

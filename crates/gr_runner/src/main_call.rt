@@ -1,0 +1,71 @@
+// The top call: from the program's words to its report.
+ghost use Rattle.std.specs.Prelude.{◌≡◌, ◌<◌, ◌-◌, ◌^◌, ◌⊎◌, map, IfSome, None, string_bytes};
+ghost use Rattle.gr_base.specs.Limits.{default_limits};
+ghost use Rattle.gr_runner.specs.Main.{IsNothingRun, IsNotOpened, IsRun, IsUsage, phases_named};
+
+use super::{Report, SessionLogs, Status, run_serial};
+use gr_base::{Limits, NoMemory};
+use gr_model::Journal;
+use gr_outside::{Files, OpenFault, Sink, Source};
+use std::alloc::Global;
+
+/// Reads the words (without the program's own name), opens the file that they name, runs it, and writes its replies.
+pub fn main_call<F: Files, K: Sink>(
+    alloc: Global,
+    words: &[String],
+    files: &mut F,
+    sink: &mut K,
+) -> Report
+    requires files_countable { F.faults files.old < 2 ^ 64 - 1 }
+    requires sink_countable { K.faults sink.old < 2 ^ 64 - 1 }
+    ensures usage { phases_named (map string_bytes words.now) ≡ None → IsUsage result files.old files.new sink.old sink.new }
+    ensures run { IfSome (phases_named (map string_bytes words.now)) (λ phases.
+        IsNotOpened (F.can_fail files.old) phases result (F.faults files.old) (F.faults files.new) sink.old sink.new
+        ⊎ IsRun (F.bytes_of files.old) (F.pairs_of files.old) default_limits.source phases result
+            (F.faults files.old) (F.faults files.new) (K.taken sink.old) (K.taken sink.new) (K.faults sink.old < K.faults sink.new)) }
+{
+    let Some(name) = file_named(words) else {
+        return nothing_run(alloc, Status::Usage);
+    };
+    match files.open(alloc, name) {
+        Ok(file) => run_file(alloc, file, sink),
+        Err(OpenFault::Failed) => nothing_run(alloc, Status::Open),
+        Err(OpenFault::NoMemory) => nothing_run(alloc, Status::NoMemory),
+    }
+}
+
+// The one file that the words name.
+fn file_named(words: &[String]) -> Option<&str> {
+    match words {
+        [name] if !name.as_bytes().starts_with(b"-") => Some(name.as_str()),
+        _ => None,
+    }
+}
+
+// Runs one file, in one phase.
+fn run_file<S: Source + Drop, K: Sink>(alloc: Global, file: S, sink: &mut K) -> Report {
+    match one_phase(alloc, file) {
+        Ok(phases) => run_serial(alloc, Limits::default(), phases, sink),
+        Err(NoMemory) => nothing_run(alloc, Status::NoMemory),
+    }
+}
+
+fn one_phase<S: Drop>(alloc: Global, file: S) -> Result<Vec<Vec<S>>, NoMemory>
+{
+    let mut sources = Vec::new(alloc);
+    sources.push(file)?;
+    let mut phases = Vec::new(alloc);
+    phases.push(sources)?;
+    Ok(phases)
+}
+
+fn nothing_run(alloc: Global, status: Status) -> Report
+    ensures status { result.status ≡ status }
+    ensures nothing { IsNothingRun result }
+{
+    Report {
+        status,
+        journal: Journal::new(alloc),
+        sessions: SessionLogs::from_vec(Vec::new(alloc)),
+    }
+}
