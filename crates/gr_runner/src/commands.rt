@@ -78,7 +78,9 @@ fn run_source<S: Source + Drop>(
                     return End::SourceTooLong { bytes: total };
                 }
             }
-            Err(failed) => return End::Read { faults: failed.faults },
+            Err(failed) => return End::Read {
+                faults: failed.faults,
+            },
         }
     }
 }

@@ -2,13 +2,13 @@
 #![tactic(auto)]
 
 mod commands;
-mod main_call;
+mod program;
 mod report;
 mod serial;
 mod status;
 mod write;
 
-pub use main_call::main_call;
+pub use program::main_call;
 pub use report::{Dones, End, Report, SessionLog, SessionLogs};
 pub use serial::run_serial;
 pub use status::Status;

@@ -22,7 +22,7 @@ pub fn main_call<F: Files, K: Sink>(
     ensures run { IfSome (phases_named (map string_bytes words.now)) (λ phases.
         IsNotOpened (F.can_fail files.old) phases result (F.faults files.old) (F.faults files.new) sink.old sink.new
         ⊎ IsRun (F.bytes_of files.old) (F.pairs_of files.old) default_limits.source phases result
-            (F.faults files.old) (F.faults files.new) (K.taken sink.old) (K.taken sink.new) (K.faults sink.old < K.faults sink.new)) }
+        (F.faults files.old) (F.faults files.new) (K.taken sink.old) (K.taken sink.new) (K.faults sink.old < K.faults sink.new)) }
 {
     let Some(name) = file_named(words) else {
         return nothing_run(alloc, Status::Usage);
@@ -50,8 +50,7 @@ fn run_file<S: Source + Drop, K: Sink>(alloc: Global, file: S, sink: &mut K) -> 
     }
 }
 
-fn one_phase<S: Drop>(alloc: Global, file: S) -> Result<Vec<Vec<S>>, NoMemory>
-{
+fn one_phase<S: Drop>(alloc: Global, file: S) -> Result<Vec<Vec<S>>, NoMemory> {
     let mut sources = Vec::new(alloc);
     sources.push(file)?;
     let mut phases = Vec::new(alloc);
