@@ -38,19 +38,19 @@ longer old new entry applied = ap length applied.last ∙ length_push old entry
 
 grows-applied : (old new : List Entry) (session command : ℕ) (wish : TableWish) → IsApplied old new (asking session command wish) → Grows old new session command
 grows-applied old new session command wish applied = record {
-    added = asking session command wish ∷ [];
-    grows = applied.last;
-    owned = (is_own-asking session command wish, tt);
-    accepted = λ accepted. rw applied.last (IsAccepted-push old (asking session command wish) accepted tt applied.accepted);
-  }
+  added = asking session command wish ∷ [];
+  grows = applied.last;
+  owned = (is_own-asking session command wish, tt);
+  accepted = λ accepted. rw applied.last (IsAccepted-push old (asking session command wish) accepted tt applied.accepted);
+}
 
 grows-same : (old new : List Entry) (session command : ℕ) → new ≡ old → Grows old new session command
 grows-same old new session command same = record {
-    added = [];
-    grows = same ∙ sym (append-nil old);
-    owned = tt;
-    accepted = λ accepted. rw same accepted;
-  }
+  added = [];
+  grows = same ∙ sym (append-nil old);
+  owned = tt;
+  accepted = λ accepted. rw same accepted;
+}
 
 grows-creates : (old new : List Entry) (session command : ℕ) (wish : TableWish) (answer : Result (List ℕ) NoMemory) → Creates old new (asking session command wish) answer → Grows old new session command
 grows-creates old new session command wish (Ok text) (inl created) = grows-applied old new session command wish created.applied
@@ -61,21 +61,21 @@ grows-creates old new session command wish (Err none) (inr same) = grows-same ol
 made : (old new : List Entry) (session command : ℕ) (wish : TableWish) (text : List ℕ) → own session command old ≡ [] → IsCreated old new (asking session command wish) text
     → IsMade new session command (CreateTable wish) (done_between old new text)
 made old new session command wish text none created = record {
-    place = length old;
-    entry = own-applied old new session command wish none created.applied;
-    after = omega arith;
-    mark = longer old new (asking session command wish) created.applied;
-    text = created.told;
-  }
+  place = length old;
+  entry = own-applied old new session command wish none created.applied;
+  after = omega arith;
+  mark = longer old new (asking session command wish) created.applied;
+  text = created.told;
+}
 
 not_made : (old new : List Entry) (session command : ℕ) (wish : TableWish) (text : List ℕ) → own session command old ≡ [] → IsNotCreated old new (asking session command wish) text
     → IsNotMade new session command (CreateTable wish) (done_between old new text)
 not_made old new session command wish text none refused = record {
-    fault = refused.fault;
-    none = rw refused.same none;
-    first = rw (take_all (length new) new (omega arith), refused.same) refused.first;
-    text = refused.told;
-  }
+  fault = refused.fault;
+  none = rw refused.same none;
+  first = rw (take_all (length new) new (omega arith), refused.same) refused.first;
+  text = refused.told;
+}
 
 starved-applied : (old new : List Entry) (session command : ℕ) (wish : TableWish) → own session command old ≡ [] → IsApplied old new (asking session command wish)
     → IsStarved new session command (Asked (TableCreate wish)) (done_between old new (want_of_memory_line (codes "false")))

@@ -49,10 +49,10 @@ Answers-more journal more session command NoMemory done same before none = absur
 -- a reply stands where the journal grows by entries of others
 pub Reply-more : (journal more : List Entry) (session command : ℕ) (item : Next) (done : Done) → AllByRecursion (λ entry. is_own session command entry ≡ false) more → Reply journal session command item done → Reply (journal ++ more) session command item done
 Reply-more journal more session command item done others reply = record {
-    order = reply.order;
-    within = within-more journal more done.mark reply.within;
-    answers = Answers-more journal more session command item done (own-more journal more session command others) (take-append-le done.mark journal more reply.within) reply.answers;
-  }
+  order = reply.order;
+  within = within-more journal more done.mark reply.within;
+  answers = Answers-more journal more session command item done (own-more journal more session command others) (take-append-le done.mark journal more reply.within) reply.answers;
+}
 
 -- and so does the reply to want of memory
 pub IsStarved-more : (journal more : List Entry) (session command : ℕ) (item : Next) (done : Done) → AllByRecursion (λ entry. is_own session command entry ≡ false) more → IsStarved journal session command item done → IsStarved (journal ++ more) session command item done

@@ -96,19 +96,11 @@ impl Session {
         ensures reply { own self.now.session self.now.command state.old ≡ [] → Runs state.old state.new self.now.session self.now.command next result }
     {
         match next {
-            Next::Command(command) => self.run_command(alloc, state, command),
+            Next::Command(Command::TableCreate(wish)) => {
+                create(alloc, state, self.entry(Change::CreateTable(wish)))
+            }
             Next::Bad(fault) => refusal(alloc, &fault),
             Next::NeedMore | Next::End | Next::NoMemory => unreachable!(),
-        }
-    }
-
-    fn run_command(&self, alloc: Global, state: &mut State, command: Command) -> Result<Bytes, NoMemory>
-        requires { IsItem (Next.Command command) }
-        ensures grows { Grows state.old state.new self.now.session self.now.command }
-        ensures reply { own self.now.session self.now.command state.old ≡ [] → Runs state.old state.new self.now.session self.now.command (Next.Command command) result }
-    {
-        match command {
-            Command::TableCreate(wish) => create(alloc, state, self.entry(Change::CreateTable(wish))),
         }
     }
 
