@@ -1,5 +1,6 @@
 // The lines that replies are made of.
-ghost use Rattle.std.specs.Prelude.{◌≡◌, IfOk, IsUtf8, codes};
+ghost use Rattle.std.specs.Prelude.{◌≡◌, IfOk, IsUtf8, codes, string_bytes};
+ghost use Rattle.json.specs.Print.{quoted};
 ghost use Rattle.gr_session.specs.ReplyText.{refusal_line, success_line, want_of_memory_line};
 
 use gr_base::{Bytes, Fault, NoMemory, fault_text};
@@ -27,9 +28,16 @@ pub(crate) fn refusal(alloc: Global, fault: &Fault) -> Result<Bytes, NoMemory>
 {
     let code = fault.kind.code();
     let text = fault_text(alloc, fault)?;
-    let text = Value::String(String::from_str(alloc, text.as_text())?);
-    let quoted = text.to_string(alloc)?;
-    let quoted = quoted.as_str();
-    let line = format!(in alloc; "[[{code},{quoted}],false]\n")?;
+    let text = quoted(alloc, text.as_text())?;
+    let text = text.as_str();
+    let line = format!(in alloc; "[[{code},{text}],false]\n")?;
     Bytes::from_string(alloc, line)
+}
+
+// A text as a JSON string.
+fn quoted(alloc: Global, text: &str) -> Result<String, NoMemory>
+    ensures { IfOk result (λ json. string_bytes json ≡ quoted text.now) }
+{
+    let text = String::from_str(alloc, text)?;
+    Ok(Value::String(text).to_string(alloc)?)
 }

@@ -1,11 +1,12 @@
 // A session: one file's commands, run in order.
-ghost use Rattle.std.specs.Prelude.{◌≡◌, ◌≤◌, ◌<◌, ◌^◌, ◌-◌, true, false, length, codes, IfOk};
+ghost use Rattle.std.specs.Prelude.{◌≡◌, ◌≤◌, ◌<◌, ◌^◌, ◌-◌, [], true, false, length, codes, IfOk};
 ghost use Rattle.gr_model.specs.Entry.{HoldsText};
 ghost use Rattle.gr_session.specs.Commands.{IsItem};
+ghost use Rattle.gr_session.specs.Own.{own};
 ghost use Rattle.gr_session.specs.Reply.{entry_of};
 ghost use Rattle.gr_session.specs.ReplyText.{want_of_memory_line};
 ghost use Rattle.gr_session.specs.Step.{Steps, opened_at};
-ghost use Rattle.gr_session.specs.Creates.{Creates};
+ghost use Rattle.gr_session.specs.Creates.{Creates, Grows, Runs};
 
 use super::reply::{refusal, success, want_of_memory};
 use super::{Command, Next};
@@ -77,13 +78,7 @@ impl Session {
         ensures { Steps self.old self.new state.old state.new next result }
     {
         let from = state.journal().len();
-        let answer = match next {
-            Next::Command(Command::TableCreate(wish)) => {
-                create(alloc, state, self.entry(Change::CreateTable(wish)))
-            }
-            Next::Bad(fault) => refusal(alloc, &fault),
-            Next::NeedMore | Next::End | Next::NoMemory => unreachable!(),
-        };
+        let answer = self.run(alloc, state, next);
         let mark = state.journal().len();
         self.command += 1;
         self.mark = mark;
@@ -92,6 +87,21 @@ impl Session {
             Err(NoMemory) => self.take_last_reply(),
         };
         Done { from, mark, text }
+    }
+
+    // Runs one command, or refuses one line, and gives its reply.
+    fn run(&self, alloc: Global, state: &mut State, next: Next) -> Result<Bytes, NoMemory>
+        requires { IsItem next }
+        ensures grows { Grows state.old state.new self.now.session self.now.command }
+        ensures reply { own self.now.session self.now.command state.old ≡ [] → Runs state.old state.new self.now.session self.now.command next result }
+    {
+        match next {
+            Next::Command(Command::TableCreate(wish)) => {
+                create(alloc, state, self.entry(Change::CreateTable(wish)))
+            }
+            Next::Bad(fault) => refusal(alloc, &fault),
+            Next::NeedMore | Next::End | Next::NoMemory => unreachable!(),
+        }
     }
 
     // The first entry of the command under way.
