@@ -1,3 +1,4 @@
-pub mod Owning
 pub mod Accepting
 pub mod Creating
+pub mod Lines
+pub mod Owning
