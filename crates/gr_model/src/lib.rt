@@ -5,6 +5,8 @@ mod entry;
 mod journal;
 mod schema;
 mod state;
+#[cfg(test)]
+mod tests;
 
 pub use entry::{Change, Entry, TableWish};
 pub use journal::Journal;

@@ -1,5 +1,5 @@
-// The first fault of a wish for a table.
-ghost use Rattle.std.specs.Prelude.{◌≡◌, IfOk, map};
+// The names that no table can have.
+ghost use Rattle.std.specs.Prelude.{◌≡◌};
 ghost use Rattle.std.specs.List.{list_any};
 ghost use Rattle.gr_model.specs.Db.{is_same_text};
 ghost use Rattle.gr_model.specs.Schema.{reserved_names};
