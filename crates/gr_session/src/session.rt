@@ -15,6 +15,9 @@ use gr_model::{ApplyFault, Change, Entry, State};
 use std::alloc::Global;
 use std::marker::Model;
 
+#[cfg(test)]
+mod tests;
+
 /// One command's reply, and the lengths of the journal between which it stands.
 #[derive(Drop)]
 pub struct Done {
