@@ -1,7 +1,8 @@
 // The top call: from the program's words to its report.
-ghost use Rattle.std.specs.Prelude.{◌≡◌, ◌<◌, ◌-◌, ◌^◌, ◌⊎◌, map, IfSome, None, string_bytes};
+ghost use Rattle.std.specs.Prelude.{◌≡◌, ◌<◌, ◌-◌, ◌^◌, ◌⊎◌, ◌∷◌, [], map, IfOk, IfSome, MatchOption, None, Some, string_bytes};
 ghost use Rattle.gr_base.specs.Limits.{default_limits};
 ghost use Rattle.gr_runner.specs.Main.{IsNothingRun, IsNotOpened, IsRun, IsUsage, phases_named};
+ghost use Rattle.gr_runner.specs.Run.{Run};
 
 use super::{Report, SessionLogs, Status, run_serial};
 use gr_base::{Limits, NoMemory};
@@ -35,7 +36,10 @@ pub fn main_call<F: Files, K: Sink>(
 }
 
 // The one file that the words name.
-fn file_named(words: &[String]) -> Option<&str> {
+fn file_named(words: &[String]) -> Option<&str>
+    ensures { MatchOption result (phases_named (map string_bytes words.now) ≡ None)
+        (λ name. phases_named (map string_bytes words.now) ≡ Some ((name.now ∷ []) ∷ [])) }
+{
     match words {
         [name] if !name.as_bytes().starts_with(b"-") => Some(name.as_str()),
         _ => None,
@@ -43,14 +47,22 @@ fn file_named(words: &[String]) -> Option<&str> {
 }
 
 // Runs one file, in one phase.
-fn run_file<S: Source + Drop, K: Sink>(alloc: Global, file: S, sink: &mut K) -> Report {
+fn run_file<S: Source + Drop, K: Sink>(alloc: Global, file: S, sink: &mut K) -> Report
+    requires fresh { S.faults file ≡ 0 }
+    requires sink_countable { K.faults sink.old < 2 ^ 64 - 1 }
+    ensures { Run S.left S.faults S.reaches default_limits.source ((file ∷ []) ∷ []) result
+        (K.taken sink.old) (K.taken sink.new) (K.faults sink.old < K.faults sink.new) }
+{
     match one_phase(alloc, file) {
         Ok(phases) => run_serial(alloc, Limits::default(), phases, sink),
         Err(NoMemory) => nothing_run(alloc, Status::NoMemory),
     }
 }
 
-fn one_phase<S: Drop>(alloc: Global, file: S) -> Result<Vec<Vec<S>>, NoMemory> {
+// One phase of one source.
+fn one_phase<S: Drop>(alloc: Global, file: S) -> Result<Vec<Vec<S>>, NoMemory>
+    ensures { IfOk result (λ phases. map (λ sources. sources.items) phases.items ≡ (file ∷ []) ∷ []) }
+{
     let mut sources = Vec::new(alloc);
     sources.push(file)?;
     let mut phases = Vec::new(alloc);
@@ -58,6 +70,7 @@ fn one_phase<S: Drop>(alloc: Global, file: S) -> Result<Vec<Vec<S>>, NoMemory> {
     Ok(phases)
 }
 
+// The report of a run of which nothing ran.
 fn nothing_run(alloc: Global, status: Status) -> Report
     ensures status { result.status ≡ status }
     ensures nothing { IsNothingRun result }
