@@ -1,3 +1,4 @@
 pub mod Name
 pub mod Fault
 pub mod Limits
+pub mod Compare

@@ -2,6 +2,7 @@
 #![tactic(auto)]
 
 mod bytes;
+mod compare;
 mod fault;
 mod list;
 mod memory;
@@ -9,6 +10,7 @@ mod name;
 mod numbers;
 
 pub use bytes::Bytes;
+pub use compare::Cmp;
 pub use fault::{Fault, FaultKind, fault_text};
 pub use list::{Ids, ListOf, Texts};
 pub use memory::NoMemory;
