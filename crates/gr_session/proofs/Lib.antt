@@ -1,3 +1,3 @@
 pub mod Owning
 pub mod Accepting
-pub mod Creating
+mod Creating
