@@ -1,5 +1,5 @@
 -- A journal in which each entry was accepted, and one more that is.
-use Rattle.std.proofs.Common.{◌≡◌, ℕ, ◌+◌, ◌≤◌, ◌<◌, ◌⊎◌, Some, None, List, [], ◌∷◌, ◌++◌, zero, suc, length, take, inl, inr, refl, sym, arith}
+use Rattle.std.proofs.Common.{◌≡◌, ℕ, ◌+◌, ◌<◌, ◌⊎◌, Some, None, List, [], ◌∷◌, ◌++◌, zero, suc, length, take, inl, inr, refl, sym, arith}
 use Rattle.std.proofs.lemmas.List.{take-append-le, take_at}
 use Rattle.std.specs.List.{slice_get}
 use Rattle.gr_model.specs.Accepted.{IsAccepted, IsAcceptedAfter}

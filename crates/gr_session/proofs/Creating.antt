@@ -1,20 +1,17 @@
 -- What publishing an entry that creates a table means for its command's reply.
-use Rattle.std.proofs.Common.{◌≡◌, ℕ, ◌+◌, ◌≤◌, ◌<◌, true, Result, Ok, Err, Some, List, [], ◌∷◌, ◌++◌, length, codes, map, take, inl, inr, refl, sym, ap, ◌∙◌, arith, zero-add, append-nil, length-append, eq-eqb}
+use Rattle.std.proofs.Common.{◌≡◌, ℕ, ◌+◌, true, Result, Ok, Err, List, [], ◌∷◌, length, codes, inl, inr, refl, sym, ap, ◌∙◌, arith, zero-add, append-nil, eq-eqb}
 use Rattle.std.proofs.lemmas.List.{length_push, take_all}
 use Rattle.gr_base.specs.declared.memory.NoMemory.{NoMemory}
 use Rattle.gr_model.specs.State.{IsApplied}
-use Rattle.gr_model.specs.Entry.{fault_of}
 use Rattle.gr_model.specs.declared.entry.Entry.{Entry}
 use Rattle.gr_model.specs.declared.entry.TableWish.{TableWish}
-use Rattle.gr_model.specs.declared.entry.Change.{Change}
 use Rattle.gr_model.specs.declared.entry.Change.TheVariants.{CreateTable}
 use Rattle.gr_session.specs.Own.{is_own, own, own_from}
-use Rattle.gr_session.specs.Reply.{IsMade, IsNotMade, IsStarved, Reply, asked_entries, entry_of}
+use Rattle.gr_session.specs.Reply.{IsMade, IsNotMade, IsStarved, asked_entries, entry_of}
 use Rattle.gr_session.specs.ReplyText.{want_of_memory_line}
 use Rattle.gr_session.specs.Creates.{Creates, Grows, IsCreated, IsNotCreated, Runs, done_between}
 use Rattle.gr_session.specs.declared.command.Command.{Command}
 use Rattle.gr_session.specs.declared.command.Command.TheVariants.{TableCreate}
-use Rattle.gr_session.specs.declared.command.Next.{Next}
 use Rattle.gr_session.specs.declared.command.Next.TheVariants.{Command as Asked}
 use Rattle.gr_session.proofs.Owning.{own_from-append}
 use Rattle.gr_session.proofs.Accepting.{IsAccepted-push}

@@ -1,4 +1,4 @@
 pub mod Accepting
-pub mod Creating
+mod Creating
 pub mod Lines
 pub mod Owning

@@ -1,13 +1,10 @@
 -- A command's own entries in a journal that grows, and what its reply means there.
-use Rattle.std.proofs.Common.{◌≡◌, ℕ, ◌+◌, ◌≤◌, ◌<◌, Bool, true, false, if◌then◌else◌, List, [], ◌∷◌, ◌++◌, length, map, take, inl, inr, refl, sym, ap, subst, ◌∙◌, arith, add-zero, append-nil, append_assoc, length-append}
+use Rattle.std.proofs.Common.{◌≡◌, ℕ, ◌+◌, ◌≤◌, false, if◌then◌else◌, List, [], ◌∷◌, ◌++◌, length, take, inl, inr, refl, sym, ap, ◌∙◌, arith, add-zero, append-nil, append_assoc, length-append}
 use Rattle.std.proofs.lemmas.List.{take-append-le}
 use Rattle.std.specs.List.{AllByRecursion}
 use Rattle.gr_model.specs.declared.entry.Entry.{Entry}
-use Rattle.gr_model.specs.declared.entry.Change.{Change}
-use Rattle.gr_model.specs.declared.entry.Change.TheVariants.{CreateTable}
 use Rattle.gr_session.specs.Own.{is_own, own, own_from}
-use Rattle.gr_session.specs.Reply.{Answers, IsMade, IsNotMade, IsRefusedAtOnce, IsStarved, Reply}
-use Rattle.gr_session.specs.declared.command.Command.{Command}
+use Rattle.gr_session.specs.Reply.{Answers, IsStarved, Reply}
 use Rattle.gr_session.specs.declared.command.Command.TheVariants.{TableCreate}
 use Rattle.gr_session.specs.declared.command.Next.{Next}
 use Rattle.gr_session.specs.declared.command.Next.TheVariants.{Command as Asked, Bad, NeedMore, End, NoMemory}

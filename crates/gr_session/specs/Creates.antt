@@ -1,5 +1,5 @@
 -- What running one command does, and which reply it has.
-use Rattle.std.specs.Prelude.{ℕ, ◌≡◌, ◌⊎◌, Some, None, Result, Ok, Err, List, [], ◌∷◌, ◌++◌, codes, length, true}
+use Rattle.std.specs.Prelude.{ℕ, ◌≡◌, ◌⊎◌, Some, Result, Ok, Err, List, ◌++◌, codes, length, true}
 use Rattle.std.specs.List.{AllByRecursion}
 use Rattle.gr_base.specs.declared.fault.Fault.{Fault}
 use Rattle.gr_base.specs.declared.memory.NoMemory.{NoMemory}
@@ -7,7 +7,7 @@ use Rattle.gr_model.specs.Accepted.{IsAccepted}
 use Rattle.gr_model.specs.Entry.{fault_of}
 use Rattle.gr_model.specs.State.{IsApplied}
 use Rattle.gr_model.specs.declared.entry.Entry.{Entry}
-use Rattle.gr_session.specs.Own.{is_own, own}
+use Rattle.gr_session.specs.Own.{is_own}
 use Rattle.gr_session.specs.Reply.{IsStarved, Reply}
 use Rattle.gr_session.specs.ReplyText.{refusal_line, success_line, want_of_memory_line}
 use Rattle.gr_session.specs.declared.command.Next.{Next}
