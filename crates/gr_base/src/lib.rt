@@ -7,6 +7,8 @@ mod list;
 mod memory;
 mod name;
 mod numbers;
+#[cfg(test)]
+mod tests;
 
 pub use bytes::Bytes;
 pub use fault::{Fault, FaultKind, fault_text};

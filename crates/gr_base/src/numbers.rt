@@ -30,6 +30,10 @@ pub struct Limits {
 }
 
 impl Default for Limits {
+    ghost use Rattle.std.specs.Prelude.{◌≡◌};
+
+    ghost is_default = { λ limits. limits ≡ record { records = 1_048_576; journal = 4_194_304; source = 67_108_864; line = 33_554_432 } };
+
     fn default() -> Limits {
         Limits {
             records: 1_048_576,
