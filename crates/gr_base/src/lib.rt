@@ -8,6 +8,8 @@ mod list;
 mod memory;
 mod name;
 mod numbers;
+#[cfg(test)]
+mod tests;
 
 pub use bytes::Bytes;
 pub use compare::Cmp;
