@@ -1,3 +1,5 @@
 pub mod Lines
 pub mod Words
 pub mod Texts
+pub mod Found
+pub mod Steps

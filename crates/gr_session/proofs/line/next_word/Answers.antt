@@ -1,4 +1,3 @@
-use Rattle.std.proofs.Common.{◌≡◌, ◌∙◌, ap, drop, take}
 use Rattle.std.proofs.lemmas.List.Sums.{prefix_len-le-length}
 use Rattle.gr_session.proofs.Words.{FindsWord, words-FindsWord, none-FindsWord}
 use Rattle.gr_session.proofs.line.next_word.Goals as goal
