@@ -12,6 +12,9 @@ use std::alloc::Global;
 use std::cmp::max;
 use std::marker::Model;
 
+#[cfg(test)]
+mod tests;
+
 /// Reads commands from a stream that comes in pieces; the items are the same however it was cut.
 #[derive(Drop)]
 pub struct Reader {
