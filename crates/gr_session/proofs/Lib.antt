@@ -1,4 +1,8 @@
 pub mod Accepting
 mod Creating
+mod Found
 pub mod Lines
 pub mod Owning
+mod Steps
+mod Texts
+mod Words

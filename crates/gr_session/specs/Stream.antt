@@ -1,6 +1,6 @@
 -- What a reader of commands holds: the bytes that it has not given yet, and whether more can come.
-use Rattle.std.specs.Prelude.{ℕ, ◌≡◌, ◌<◌, ◌++◌, Bool, true, false, if◌then◌else◌, List, [], ◌∷◌, length}
-use Rattle.gr_session.specs.Commands.{commands, IsItem}
+use Rattle.std.specs.Prelude.{ℕ, ◌≡◌, ◌≤◌, ◌<◌, ◌⊎◌, ◌++◌, Bool, true, false, if◌then◌else◌, List, [], ◌∷◌, All, drop, length, take}
+use Rattle.gr_session.specs.Commands.{commands, is_line_end, IsItem}
 use Rattle.gr_session.specs.declared.command.Next.{Next}
 use Rattle.gr_session.specs.declared.command.Next.TheVariants.{Command as Asked, Bad, NeedMore, End, NoMemory}
 
@@ -12,6 +12,14 @@ pub record Stream : Type 0 where
 -- the items that are left where more bytes follow; nothing follows the end
 abbrev pub left : Stream → List ℕ → Bool → List Next
 left stream more ended = if stream.ended then commands stream.bytes true else commands (stream.bytes ++ more) ended
+
+-- the first line has so many bytes, and as many go with it and its end; the last line of a text has no end
+pub record StandsFirst (stream : Stream) (line past : ℕ) : Type 0 where
+  pub whole : All (λ c. is_line_end c ≡ false) (take line stream.bytes)
+  pub ends : (drop line stream.bytes ≡ 10 ∷ drop past stream.bytes) ⊎ ((stream.ended ≡ true) × (line ≡ length stream.bytes) × (past ≡ line))
+  pub some : 0 < past
+  pub order : line ≤ past
+  pub within : past ≤ length stream.bytes
 
 -- nothing was taken: whatever follows, the same items are left
 pub record IsSameLeft (old new : Stream) : Type 0 where

@@ -1,6 +1,7 @@
 // What one line asks for.
-ghost use Rattle.std.specs.Prelude.{◌≡◌, ◌==◌, IfOk, IfSome, length, if◌then◌else◌, ◌∷◌, []};
-ghost use Rattle.std.specs.List.{list_all, position_or_len, prefix_len};
+ghost use Rattle.std.specs.Prelude.{◌≡◌, ◌==◌, ◌&&◌, IfOk, IfSome, length, if◌then◌else◌, ◌∷◌, [], not, codes};
+ghost use Rattle.std.specs.List.{list_all, prefix_len};
+ghost use Rattle.gr_model.specs.Db.{is_same_text};
 ghost use Rattle.gr_session.specs.Commands.{IsItem, bad_line, is_blank, is_plain, is_readable, item_of_line, table_asked, words};
 
 use super::{Command, Next};
@@ -39,11 +40,11 @@ pub(crate) fn item_of_line(alloc: Global, line: &[u8]) -> Result<Option<Next>, N
 fn table_asked(alloc: Global, others: &[u8]) -> Result<Next, NoMemory>
     ensures exact { IfOk result (λ item. item ≡ table_asked (words others.now)) }
 {
-    let (name, others) = next_word(others);
-    let (flags, others) = next_word(others);
-    let (key_type, others) = next_word(others);
-    let (more, _) = next_word(others);
-    if flags != HASH_KEY.as_bytes() || key_type != SHORT_TEXT.as_bytes() || !more.is_empty() {
+    let (name, after_name) = next_word(others);
+    let (flags, after_flags) = next_word(after_name);
+    let (key_type, after_key_type) = next_word(after_flags);
+    let (more, _) = next_word(after_key_type);
+    if !asks_table(flags, key_type, more) {
         return bad_line(alloc);
     }
     Ok(Next::Command(Command::TableCreate(TableWish {
@@ -52,6 +53,13 @@ fn table_asked(alloc: Global, others: &[u8]) -> Result<Next, NoMemory>
         key_type: Bytes::from_slice(alloc, key_type)?,
         tokenizer: Bytes::from_slice(alloc, b"")?,
     })))
+}
+
+// Whether these words, the last of which must be none, ask for the one kind of table and of key that is taken.
+fn asks_table(flags: &[u8], key_type: &[u8], more: &[u8]) -> bool
+    ensures { result ≡ (is_same_text flags.now (codes "TABLE_HASH_KEY") && is_same_text key_type.now (codes "ShortText") && length more.now == 0) }
+{
+    flags == HASH_KEY.as_bytes() && key_type == SHORT_TEXT.as_bytes() && more.is_empty()
 }
 
 fn bad_line(alloc: Global) -> Result<Next, NoMemory>
@@ -79,9 +87,8 @@ fn next_word(line: &[u8]) -> (&[u8], &[u8])
     ensures word { words line.now ≡ (if length result.0.now == 0 then [] else result.0.now ∷ words result.1.now) }
     ensures none { length result.0.now ≡ 0 → length result.1.now ≡ 0 }
 {
-    let rest = &line[count_blanks(line)..];
-    let end = count_to_blank(rest);
-    (&rest[..end], &rest[end..])
+    let (_, rest) = line.split_at(count_blanks(line));
+    rest.split_at(count_to_blank(rest))
 }
 
 // How many blanks a line begins with.
@@ -93,9 +100,9 @@ fn count_blanks(line: &[u8]) -> usize
 
 // How many bytes stand before the first blank.
 fn count_to_blank(line: &[u8]) -> usize
-    ensures { result ≡ position_or_len is_blank line.now }
+    ensures { result ≡ prefix_len (λ c. not (is_blank c)) line.now }
 {
-    line.iter().position(|c| is_blank(*c)).unwrap_or(line.len())
+    line.iter().take_while(|c| !is_blank(**c)).count()
 }
 
 fn is_blank(c: u8) -> bool

@@ -1,13 +1,19 @@
 // The reader of commands, over pieces of any size.
-ghost use Rattle.std.specs.Prelude.{◌≡◌, ◌++◌, ◌≤◌, ◌<◌, [], true, false, OnOk, OnErr, MatchOption, length};
-ghost use Rattle.gr_session.specs.Stream.{Gives};
+ghost use Rattle.std.specs.Prelude.{◌≡◌, ◌++◌, ◌≤◌, [], true, false, OnOk, OnErr, IfSome, if◌then◌else◌, drop, length, take};
+ghost use Rattle.memchr.specs.Find.{IsFirstByte, is_byte};
+ghost use Rattle.gr_session.specs.Commands.{commands};
+ghost use Rattle.gr_session.specs.Stream.{Gives, StandsFirst};
 
 use super::Next;
 use super::line::item_of_line;
 use gr_base::NoMemory;
 use memchr::memchr;
 use std::alloc::Global;
+use std::cmp::max;
 use std::marker::Model;
+
+#[cfg(test)]
+mod tests;
 
 /// Reads commands from a stream that comes in pieces; the items are the same however it was cut.
 #[derive(Drop)]
@@ -68,18 +74,14 @@ impl Reader {
     pub fn next_command(&mut self, alloc: Global) -> Next
         ensures { Gives self.old self.new result }
     {
-        loop {
-            let Some(line) = self.next_line() else {
-                return if self.ended {
-                    Next::End
-                } else {
-                    Next::NeedMore
-                };
+        'lines: loop {
+            let Some(line) = self.first_line() else {
+                return self.stage();
             };
-            match item_of_line(alloc, &self.bytes[self.at..line.end]) {
-                Ok(None) => self.at = line.after,
+            match item_of_line(alloc, self.front(line.len)) {
+                Ok(None) => self.pass(line.past),
                 Ok(Some(item)) => {
-                    self.at = line.after;
+                    self.pass(line.past);
                     return item;
                 }
                 Err(NoMemory) => return Next::NoMemory,
@@ -87,34 +89,83 @@ impl Reader {
         }
     }
 
-    // The line that begins where the bytes are left, if it is whole.
-    fn next_line(&mut self) -> Option<Line> {
-        if self.at == self.bytes.len() {
-            return None;
+    // Why no item is left.
+    fn stage(&self) -> Next
+        ensures { result ≡ (if self.now.ended then Next.End else Next.NeedMore) }
+    {
+        if self.ended {
+            Next::End
+        } else {
+            Next::NeedMore
         }
+    }
+
+    // The first line of the bytes that are left, if it is whole.
+    fn first_line(&mut self) -> Option<Line>
+        ensures kept { self.new ≡ self.old }
+        ensures whole { IfSome result (λ line. StandsFirst self.old line.len line.past) }
+        ensures none { result ≡ None → commands self.old.bytes self.old.ended ≡ [] }
+    {
+        let left = self.left();
+        match self.find_end() {
+            Some(len) => Some(Line { len, past: len + 1 }),
+            None if self.ended && left > 0 => Some(Line {
+                len: left,
+                past: left,
+            }),
+            None => None,
+        }
+    }
+
+    // How many bytes are left.
+    fn left(&self) -> usize
+        ensures { result ≡ length self.now.bytes }
+    {
+        self.bytes.len() - self.at
+    }
+
+    // The place of the first line feed; looks at no byte twice.
+    fn find_end(&mut self) -> Option<usize>
+        ensures kept { self.new ≡ self.old }
+        ensures place { IsFirstByte (is_byte 10) self.old.bytes result }
+    {
         match memchr(b'\n', &self.bytes[self.searched..]) {
             Some(further) => {
-                let end = self.searched + further;
-                Some(Line {
-                    end,
-                    after: end + 1,
-                })
+                self.searched += further;
+                Some(self.searched - self.at)
             }
             None => {
                 self.searched = self.bytes.len();
-                let end = self.bytes.len();
-                if self.ended {
-                    Some(Line { end, after: end })
-                } else {
-                    None
-                }
+                None
             }
         }
     }
 
+    // The first bytes that are left.
+    fn front(&self, len: usize) -> &[u8]
+        requires { len ≤ length self.now.bytes }
+        ensures { result.now ≡ take len self.now.bytes }
+    {
+        &self.bytes[self.at..self.at + len]
+    }
+
+    // Leaves out the first bytes.
+    fn pass(&mut self, len: usize)
+        requires { len ≤ length self.old.bytes }
+        ensures { self.new ≡ record { bytes = drop len self.old.bytes; ended = self.old.ended } }
+    {
+        self.at += len;
+        self.searched = max(self.searched, self.at);
+    }
+
     // Moves the bytes that are left to the front.
-    fn compact(&mut self) {
-        let left = self.bytes.len() - self.at;
+    fn compact(&mut self)
+        ensures { self.new ≡ self.old }
+    {
+        if self.at == 0 {
+            return;
+        }
+        let left = self.left();
         self.bytes.copy_within(self.at.., 0);
         self.bytes.truncate(left);
         self.searched -= self.at;
@@ -122,9 +173,9 @@ impl Reader {
     }
 }
 
-// Where a line ends, and where the next one begins.
+// How many bytes a line has, and how many with its end.
 #[derive(Clone, Copy)]
 struct Line {
-    end: usize,
-    after: usize,
+    len: usize,
+    past: usize,
 }

@@ -1,0 +1,100 @@
+// The items of texts that are fed whole and in pieces.
+ghost use Rattle.std.specs.Prelude.{◌≡◌, ◌<◌};
+
+use super::super::{Command, Next};
+use super::Reader;
+use gr_base::NoMemory;
+use std::alloc::Global;
+use std::test::Fail;
+
+// The bytes of words, a space behind each, and a line feed.
+fn push_words(items: &mut Vec<u8>, words: &[&[u8]]) -> Result<(), NoMemory> {
+    for word in words {
+        items.extend_from_slice(word)?;
+        items.push(b' ')?;
+    }
+    items.push(b'\n')?;
+    Ok(())
+}
+
+// Writes down each item that the reader gives now.
+fn push_items(items: &mut Vec<u8>, alloc: Global, reader: &mut Reader) -> Result<(), NoMemory>
+    ensures { reader.new.ended ≡ reader.old.ended }
+{
+    'items: loop {
+        match reader.next_command(alloc) {
+            Next::Command(Command::TableCreate(wish)) => push_words(
+                items,
+                &[
+                    b"table",
+                    wish.name.as_slice(),
+                    wish.flags.as_slice(),
+                    wish.key_type.as_slice(),
+                ],
+            )?,
+            Next::Bad(fault) => push_words(
+                items,
+                &[fault.kind.name().as_bytes(), fault.name.as_slice()],
+            )?,
+            Next::NeedMore | Next::End => return Ok(()),
+            Next::NoMemory => return Err(NoMemory),
+        }
+    }
+}
+
+// The items of a text that is fed in pieces of this size.
+fn items(alloc: Global, text: &[u8], size: usize) -> Result<Vec<u8>, NoMemory>
+    requires { 0 < size }
+{
+    let mut items = Vec::new(alloc);
+    let mut reader = Reader::new(alloc);
+    for piece in text.chunks(size) {
+        reader.feed(piece)?;
+        push_items(&mut items, alloc, &mut reader)?;
+    }
+    reader.end();
+    push_items(&mut items, alloc, &mut reader)?;
+    Ok(items)
+}
+
+#[test]
+fn a_text_gives_the_same_items_in_any_pieces(rt: HostRuntime) -> Result<(), Fail> {
+    let alloc = rt.alloc();
+    let mut longest = vec![in alloc; b' '; 4093]?;
+    longest.extend_from_slice(b"foo")?;
+    let mut too_long = vec![in alloc; b' '; 4094]?;
+    too_long.extend_from_slice(b"foo\nbar")?;
+    let table = "table T TABLE_HASH_KEY ShortText \n";
+    for (text, want) in [
+        (b"".as_slice(), ""),
+        (b"table_create T TABLE_HASH_KEY ShortText", table),
+        (b"table_create T TABLE_HASH_KEY ShortText\n", table),
+        (
+            b" \ttable_create\t T  TABLE_HASH_KEY\tShortText \t\n",
+            table,
+        ),
+        (b"\n \n\t\n", ""),
+        (b"foo", "UnknownCommand foo \n"),
+        (b"foo\r", "BadLine  \n"),
+        (longest.as_slice(), "UnknownCommand foo \n"),
+        (too_long.as_slice(), "BadLine  \nUnknownCommand bar \n"),
+        (b"foo \xC8", "BadLine  \n"),
+        (b"table_create", "BadLine  \n"),
+        (b"table_create T TABLE_HASH_KEY", "BadLine  \n"),
+        (b"table_create T TABLE_HASH_KEY ShortText x", "BadLine  \n"),
+        (b"table_create T TABLE_PAT_KEY ShortText", "BadLine  \n"),
+        (b"table_create T TABLE_HASH_KEY Text", "BadLine  \n"),
+        (b"# x", "UnknownCommand # \n"),
+        (
+            b"foo\n\n table_create T TABLE_HASH_KEY ShortText\nbar\n",
+            "UnknownCommand foo \ntable T TABLE_HASH_KEY ShortText \nUnknownCommand bar \n",
+        ),
+    ] {
+        for size in [8192, 1, 3] {
+            assert!(rt; size > 0);
+            let items = items(alloc, text, size)?;
+            assert_eq!(rt; items.as_slice(), want.as_bytes(), "{text:?} by {size}");
+        }
+    }
+    Ok(())
+}
