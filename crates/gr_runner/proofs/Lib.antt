@@ -1,1 +1,5 @@
 pub mod Opened
+mod Progressing
+mod Reading
+mod Replying
+mod Running

@@ -6,3 +6,4 @@ pub mod Main
 pub mod Served
 pub mod Status
 pub mod Written
+pub mod Progress

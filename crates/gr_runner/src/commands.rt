@@ -1,12 +1,15 @@
 // One session: its source is read, and its commands are run.
-ghost use Rattle.std.specs.Prelude.{◌≡◌, ◌<◌, ◌≤◌, ◌^◌, ◌-◌};
+ghost use Rattle.std.specs.Prelude.{◌≡◌, ◌<◌, ◌≤◌, ◌^◌, ◌-◌, [], false, length, min, IfOk};
 ghost use Rattle.std.specs.List.{AllByRecursion};
+ghost use Rattle.gr_session.specs.Commands.{IsItem};
+ghost use Rattle.gr_session.specs.Step.{opened_at};
+ghost use Rattle.gr_runner.specs.Progress.{IsReady, RunsOne, RunsPiece, RunsSource};
 ghost use Rattle.gr_runner.specs.Served.{Serves};
 
 use super::{Dones, End, SessionLog};
 use gr_base::{NoMemory, SessionNo};
 use gr_model::State;
-use gr_outside::Source;
+use gr_outside::{Failed, Source};
 use gr_session::{Done, Next, Reader, Session};
 use std::alloc::Global;
 
@@ -50,7 +53,14 @@ fn run_source<S: Source + Drop>(
     state: &mut State,
     mut source: S,
     done: &mut Vec<Done>,
-) -> End {
+) -> End
+    requires limit { limit ≤ 2 ^ 28 }
+    requires countable { S.faults source < 2 ^ 64 - 1 }
+    requires opened { session ≡ opened_at session.session (length state.old) }
+    requires first { AllByRecursion (λ entry. entry.session.0 < session.session) state.old }
+    requires none { done.old.items ≡ [] }
+    ensures { RunsSource limit (S.left source) (S.faults source) (S.reaches source) session.session state.old state.new done.new.items result }
+{
     let Ok(mut room) = piece(alloc) else {
         return End::NoMemory;
     };
@@ -68,19 +78,15 @@ fn run_source<S: Source + Drop>(
             Ok(given) => {
                 let kept = within(limit, total, given);
                 total += given as u64;
-                if reader.feed(&room[..kept]).is_err() {
-                    return End::NoMemory;
-                }
-                if run_commands(alloc, &mut session, state, &mut reader, done).is_err() {
+                let piece = &room[..kept];
+                if run_piece(alloc, &mut session, state, &mut reader, piece, done).is_err() {
                     return End::NoMemory;
                 }
                 if total > limit {
                     return End::SourceTooLong { bytes: total };
                 }
             }
-            Err(failed) => return End::Read {
-                faults: failed.faults,
-            },
+            Err(Failed { faults }) => return End::Read { faults },
         }
     }
 }
@@ -88,12 +94,33 @@ fn run_source<S: Source + Drop>(
 // How many of the bytes given stay within the limit.
 fn within(limit: u64, total: u64, given: usize) -> usize
     requires { total ≤ limit }
+    ensures { result ≡ min given (limit - total) }
 {
     given.min((limit - total) as usize)
 }
 
-fn piece(alloc: Global) -> Result<Vec<u8>, NoMemory> {
+// Room for the bytes of one read.
+fn piece(alloc: Global) -> Result<Vec<u8>, NoMemory>
+    ensures { IfOk result (λ room. length room.items ≡ 65536) }
+{
     Ok(vec![in alloc; 0; PIECE]?)
+}
+
+// Takes a piece of the source, and runs the commands that stand whole now.
+fn run_piece(
+    alloc: Global,
+    session: &mut Session,
+    state: &mut State,
+    reader: &mut Reader,
+    piece: &[u8],
+    done: &mut Vec<Done>,
+) -> Result<(), NoMemory>
+    requires going { reader.old.ended ≡ false }
+    requires ready { IsReady session.old state.old done.old.items }
+    ensures { RunsPiece reader.old reader.new piece.now session.old session.new state.old state.new done.old.items done.new.items result }
+{
+    reader.feed(piece)?;
+    run_commands(alloc, session, state, reader, done)
 }
 
 // Runs the commands that stand whole in what was fed.
@@ -103,8 +130,11 @@ fn run_commands(
     state: &mut State,
     reader: &mut Reader,
     done: &mut Vec<Done>,
-) -> Result<(), NoMemory> {
-    loop {
+) -> Result<(), NoMemory>
+    requires { IsReady session.old state.old done.old.items }
+    ensures { RunsPiece reader.old reader.new [] session.old session.new state.old state.new done.old.items done.new.items result }
+{
+    'commands: loop {
         match reader.next_command(alloc) {
             Next::NeedMore | Next::End => return Ok(()),
             Next::NoMemory => return Err(NoMemory),
@@ -120,13 +150,14 @@ fn run_command(
     state: &mut State,
     item: Next,
     done: &mut Vec<Done>,
-) -> Result<(), NoMemory> {
+) -> Result<(), NoMemory>
+    requires item { IsItem item }
+    requires ready { IsReady session.old state.old done.old.items }
+    ensures { RunsOne session.old session.new state.old state.new item done.old.items done.new.items result }
+{
     done.reserve(1)?;
     let reply = session.step(alloc, state, item);
-    match done.push(reply) {
-        Ok(()) => {}
-        Err(_) => unreachable!(),
-    }
+    done.push_reserved(reply);
     if session.ended() {
         return Err(NoMemory);
     }

@@ -1,0 +1,13 @@
+-- The bytes given so far are within the limit, and the items that stand whole in them were run.
+use Rattle.std.proofs.Common.{◌≡◌, ℕ, ◌+◌, ◌-◌, length}
+use Rattle.gr_runner.proofs.Reading.{IsReading}
+use Rattle.gr_runner.proofs.commands.run_source.Given as goal
+
+abbrev pub invariant-loop-reader : goal.invariant-loop-reader
+invariant-loop-reader g l = record {
+  room : length l.room.items ≡ 65536;
+  reading : IsReading l.fn.limit (g.S.Source.left l.fn.source) (g.S.Source.left l.source) (g.S.Source.faults l.fn.source) (g.S.Source.faults l.source) (g.S.Source.reaches l.fn.source) (g.S.Source.reaches l.source) l.total l.reader l.fn.session l.session l.fn.state l.state l.done.items;
+}
+
+abbrev pub decreases-loop-reader : goal.decreases-loop-reader
+decreases-loop-reader g l = l.fn.limit + 1 - l.total

@@ -1,0 +1,89 @@
+-- How far a session has come, and what a stretch of its commands does.
+use Rattle.std.specs.Prelude.{ℕ, ◌≡◌, ◌<◌, ◌≤◌, ◌⊎◌, ◌++◌, Bool, true, false, Option, Result, Ok, Err, List, [], ◌∷◌, length}
+use Rattle.std.specs.List.{AllByRecursion}
+use Rattle.gr_base.specs.declared.memory.NoMemory.{NoMemory}
+use Rattle.gr_model.specs.Accepted.{IsAccepted}
+use Rattle.gr_model.specs.declared.entry.Entry.{Entry}
+use Rattle.gr_session.specs.Commands.{commands}
+use Rattle.gr_session.specs.Step.{Standing}
+use Rattle.gr_session.specs.Stream.{Stream, left}
+use Rattle.gr_session.specs.declared.command.Next.{Next}
+use Rattle.gr_session.specs.declared.session.Done.{Done}
+use Rattle.gr_runner.specs.Served.{IsOfSession}
+use Rattle.gr_runner.specs.Sessions.{Climbs, Replies}
+use Rattle.gr_runner.specs.Sources.{ReadTo}
+use Rattle.gr_runner.specs.declared.report.End.{End}
+use Rattle.gr_runner.specs.declared.report.End.TheVariants.{Finished, NoMemory as Starved}
+
+-- an entry of an earlier session, or of this session's first commands
+abbrev pub IsEarlier : ℕ → ℕ → Entry → Type 0
+IsEarlier number commands entry = (entry.session.0 < number) ⊎ IsOfSession number commands entry
+
+-- the next command can be run: each command so far has its reply, and no entry of it or of a later one stands
+pub record IsReady (standing : Standing) (journal : List Entry) (dones : List Done) : Type 0 where
+  pub running : standing.ended ≡ false
+  pub behind : standing.mark ≤ length journal
+  pub counted : standing.command ≡ length dones
+  pub earlier : AllByRecursion (IsEarlier standing.session (length dones)) journal
+
+-- the journal grew by entries of this session's first commands alone, each accepted where it stands
+pub record Grows (number commands : ℕ) (old new : List Entry) : Type 0 where
+  pub added : List Entry
+  pub grows : new ≡ old ++ added
+  pub owned : AllByRecursion (IsOfSession number commands) added
+  pub accepted : IsAccepted old → IsAccepted new
+
+-- from a journal on, each of these items has its reply
+pub record IsSoFar (base journal : List Entry) (standing : Standing) (items : List Next) (dones : List Done) : Type 0 where
+  pub grown : Grows standing.session (length dones) base journal
+  pub replies : Replies journal standing.session 0 items dones Finished
+  pub climbs : Climbs (length base) dones standing.mark
+
+-- from a journal on, the first of these items have their replies, and no memory was found for those that follow
+pub record IsStopped (number : ℕ) (base journal : List Entry) (items : List Next) (dones : List Done) : Type 0 where
+  pub grown : Grows number (length dones) base journal
+  pub replies : (rest : List Next) → Replies journal number 0 (items ++ rest) dones Starved
+  pub climbs : Climbs (length base) dones (length journal)
+
+-- these items were run, each with its reply, and the next command can be run
+pub record Advances (before after : Standing) (old new : List Entry) (items : List Next) (dones more : List Done) : Type 0 where
+  pub ready : IsReady after new more
+  pub session : after.session ≡ before.session
+  pub so_far : (base : List Entry) (first : List Next) → IsSoFar base old before first dones → IsSoFar base new after (first ++ items) more
+
+-- the first of these items were run, until no memory was found
+abbrev pub Stops : Standing → List Entry → List Entry → List Next → List Done → List Done → Type 0
+Stops before old new items dones more =
+    (base : List Entry) (first : List Next) → IsSoFar base old before first dones → IsStopped before.session base new (first ++ items) more
+
+-- one item was run, with its reply, or no memory was found
+abbrev pub RunsOne : Standing → Standing → List Entry → List Entry → Next → List Done → List Done → Result (Unit {0}) NoMemory → Type 0
+RunsOne before after old new item dones more (Ok done) = Advances before after old new (item ∷ []) dones more
+RunsOne before after old new item dones more (Err none) = Stops before old new (item ∷ []) dones more
+
+-- all items that stand whole in a stream and in a piece that follows were run
+pub record RunsAll (stream rest : Stream) (piece : List ℕ) (before after : Standing) (old new : List Entry) (dones more : List Done) : Type 0 where
+  pub items : List Next
+  pub given : (bytes : List ℕ) (ended : Bool) → left stream (piece ++ bytes) ended ≡ items ++ left rest bytes ended
+  pub same_end : rest.ended ≡ stream.ended
+  pub drained : commands rest.bytes rest.ended ≡ []
+  pub advances : Advances before after old new items dones more
+
+-- of the items in a stream and in a piece that follows, the first were run, until no memory was found
+pub record RunsSome (stream : Stream) (piece : List ℕ) (before : Standing) (old new : List Entry) (dones more : List Done) : Type 0 where
+  pub items : List Next
+  pub given : (bytes : List ℕ) (ended : Bool) → (others : List Next) × (left stream (piece ++ bytes) ended ≡ items ++ others)
+  pub stops : Stops before old new items dones more
+
+-- all items that stand whole were run, or no memory was found
+abbrev pub RunsPiece : Stream → Stream → List ℕ → Standing → Standing → List Entry → List Entry → List Done → List Done → Result (Unit {0}) NoMemory → Type 0
+RunsPiece stream rest piece before after old new dones more (Ok done) = RunsAll stream rest piece before after old new dones more
+RunsPiece stream rest piece before after old new dones more (Err none) = RunsSome stream piece before old new dones more
+
+-- a session's source was read so far, and its commands have their replies
+pub record RunsSource (limit : ℕ) (told : Option (List ℕ)) (faults : ℕ) (reaches : ℕ → ℕ → Type 0) (number : ℕ) (old new : List Entry) (dones : List Done) (end : End) : Type 0 where
+  pub grown : Grows number (length dones) old new
+  pub items : List Next
+  pub read : ReadTo limit told faults reaches end items
+  pub replies : Replies new number 0 items dones end
+  pub climbs : Climbs (length old) dones (length new)
