@@ -1,5 +1,5 @@
 -- The names in what a line asks for are text.
-use Rattle.std.proofs.Common.{◌≡◌, ℕ, zero, suc, ◌<◌, ◌≤◌, ◌&&◌, Bool, true, false, cond, List, [], ◌∷◌, length, filter, get_or, nat_le, nat_lt, IsUtf8, IfSome, codes, Option, Some, refl, sym, subst, arith}
+use Rattle.std.proofs.Common.{◌≡◌, ℕ, zero, suc, ◌<◌, ◌&&◌, Bool, true, false, cond, List, [], ◌∷◌, length, filter, nat_le, nat_lt, IsUtf8, IfSome, codes, Some, refl, sym, subst, arith}
 use Rattle.std.specs.Str.{IsAscii}
 use Rattle.std.specs.List.{list_all, onto_first, slice_split}
 use Rattle.std.proofs.lemmas.Bool.{and_parts, and_from}

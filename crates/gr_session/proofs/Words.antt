@@ -1,13 +1,9 @@
 -- How the first word of a line is found.
-use Rattle.std.proofs.Common.{◌≡◌, ℕ, ◌+◌, ◌==◌, Bool, true, false, not, cond, List, [], ◌∷◌, ◌++◌, length, take, drop, filter, nat_lt, nat_eq, zero, suc, codes, ◌&&◌, if◌then◌else◌, refl, ap, sym, ◌∙◌, one-add, arith}
+use Rattle.std.proofs.Common.{◌≡◌, ℕ, ◌+◌, true, false, not, cond, List, [], ◌∷◌, length, take, drop, filter, nat_lt, nat_eq, suc, refl, ap, sym, ◌∙◌, one-add, arith}
 use Rattle.std.specs.List.{slice_split, onto_first, prefix_len}
 use Rattle.std.proofs.lemmas.List.Splits.{slice_split-cons_yes, slice_split-cons_no}
-use Rattle.std.proofs.lemmas.Bool.{and_right, lt-ltb, ne_eqb}
-use Rattle.gr_model.specs.Db.{is_same_text}
-use Rattle.gr_session.specs.declared.command.Command.TheVariants.{TableCreate}
-use Rattle.gr_session.specs.declared.command.Next.{Next}
-use Rattle.gr_session.specs.declared.command.Next.TheVariants.{Command as Asked}
-use Rattle.gr_session.specs.Commands.{bad_line, is_blank, table_asked, words}
+use Rattle.std.proofs.lemmas.Bool.{lt-ltb, ne_eqb}
+use Rattle.gr_session.specs.Commands.{is_blank, words}
 
 -- how many blanks a line begins with
 abbrev pub blanks : List ℕ → ℕ
