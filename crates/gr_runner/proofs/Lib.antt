@@ -1,5 +1,11 @@
-pub mod Opened
+mod Coursing
+mod Ending
+mod Growing
+mod Opened
 mod Progressing
 mod Reading
 mod Replying
 mod Running
+mod RunningCommands
+mod Serving
+mod Writing

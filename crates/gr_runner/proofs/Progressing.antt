@@ -1,9 +1,9 @@
 -- How a session comes further, by one command and by many.
-use Rattle.std.proofs.Common.{◌≡◌, ℕ, ◌+◌, ◌<◌, ◌≤◌, ◌==◌, ◌++◌, Bool, Result, Ok, Err, List, [], ◌∷◌, length, inl, inr, true, false, refl, sym, ap, ◌∙◌, append_assoc, append-nil, length-append, zero-add, arith}
+use Rattle.std.proofs.Common.{◌≡◌, ℕ, ◌+◌, ◌≤◌, ◌==◌, ◌++◌, Result, Ok, Err, List, [], ◌∷◌, length, inl, inr, true, false, refl, sym, ap, ◌∙◌, append_assoc, append-nil, zero-add, arith}
 use Rattle.std.proofs.lemmas.Bool.{MatchBool-at_true, MatchBool-at_false, and_left, and_parts, and_right, eqb-true, ne_eqb}
 use Rattle.std.proofs.lemmas.List.{length_push}
 use Rattle.std.specs.List.{AllByRecursion}
-use Rattle.std.specs.Result.{IsErr, is_err}
+use Rattle.std.specs.Result.{IsErr}
 use Rattle.gr_base.specs.declared.memory.NoMemory.{NoMemory}
 use Rattle.gr_model.specs.Accepted.{IsAccepted}
 use Rattle.gr_model.specs.declared.entry.Entry.{Entry}
@@ -11,15 +11,13 @@ use Rattle.gr_session.proofs.Owning.{own_from-others}
 use Rattle.gr_session.specs.Own.{is_own, own}
 use Rattle.gr_session.specs.Reply.{IsStarved, Reply}
 use Rattle.gr_session.specs.Step.{Standing, Steps}
-use Rattle.gr_session.specs.Stream.{Gives, GivesItem, IsDrained, Stream, left}
 use Rattle.gr_session.specs.declared.command.Next.{Next}
-use Rattle.gr_session.specs.declared.command.Next.TheVariants.{Command as Asked, Bad, NeedMore, End, NoMemory as NoMoreMemory}
 use Rattle.gr_session.specs.declared.session.Done.{Done}
-use Rattle.gr_runner.proofs.Replying.{all_later, Climbs-push, Climbs-raise, Replies-end, Replies-more, Replies-push, Replies-starve, Replies-stop}
-use Rattle.gr_runner.specs.Progress.{Advances, RunsAll, RunsOne, RunsPiece, RunsSome, Grows, IsEarlier, IsReady, IsSoFar, IsStopped, Stops}
+use Rattle.gr_runner.proofs.Replying.{all_later, Climbs-push, Climbs-raise, Replies-more, Replies-push, Replies-starve, Replies-stop}
+use Rattle.gr_runner.specs.Progress.{Advances, RunsOne, Grows, IsEarlier, IsReady, IsSoFar, Stops}
 use Rattle.gr_runner.specs.Served.{IsOfSession}
 use Rattle.gr_runner.specs.Sessions.{Climbs, Replies}
-use Rattle.gr_runner.specs.declared.report.End.TheVariants.{Finished, NoMemory as Starved}
+use Rattle.gr_runner.specs.declared.report.End.TheVariants.{Finished}
 
 pub all_weaker : {X : Type 0} (P Q : X → Type 0) (xs : List X) → ((x : X) → P x → Q x) → AllByRecursion P xs → AllByRecursion Q xs
 all_weaker P Q [] weaker all = tt

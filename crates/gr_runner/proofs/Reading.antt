@@ -1,5 +1,5 @@
 -- How a session's source is read so far, and how the reading ends.
-use Rattle.std.proofs.Common.{◌≡◌, ℕ, ◌+◌, ◌-◌, ◌<◌, ◌≤◌, ◌++◌, Bool, List, [], ◌∷◌, length, take, drop, min, true, false, refl, sym, ap, ◌∙◌, append_assoc, append-nil, length-append, length-take, add-zero, zero-add, add_assoc, Option, Some, None, inl, arith}
+use Rattle.std.proofs.Common.{◌≡◌, ℕ, ◌+◌, ◌-◌, ◌<◌, ◌≤◌, ◌++◌, Bool, List, [], length, take, drop, min, true, false, refl, sym, ap, ◌∙◌, append_assoc, append-nil, length-append, length-take, add-zero, zero-add, add_assoc, Option, Some, None, inl, arith}
 use Rattle.std.proofs.lemmas.List.{drop_all, take-append-drop, take-take, take_at}
 use Rattle.std.proofs.KnownBytes.{Consumes-nil, Consumes-trans}
 use Rattle.std.specs.Io.KnownBytes.{Consumes, IsAtEnd}
@@ -69,7 +69,7 @@ pub record IsReading (limit : ℕ) (told now : Option (List ℕ)) (faults faults
   pub drained : commands reader.bytes false ≡ []
   pub advances : Advances start standing old new items [] dones
 
--- a session without a reply that ends for want of memory, as where its items were run up to there
+-- a session ended for want of memory: its first items were run, and the others of its bytes are left
 starves : (limit : ℕ) (told : Option (List ℕ)) (faults : ℕ) (reaches : ℕ → ℕ → Type 0) (start : Standing) (old new : List Entry) (dones : List Done) (bytes : List ℕ) (items others : List Next) → IsOpened start old → IsTold told bytes → commands bytes true ≡ items ++ others → Stops start old new items [] dones → RunsSource limit told faults reaches start.session old new dones Starved
 starves limit told faults reaches start old new dones bytes items others at source is stops =
     let stopped : IsStopped start.session old new items dones = stops old [] (so_far_opened start old at) in
@@ -81,7 +81,7 @@ starves limit told faults reaches start old new dones bytes items others at sour
       climbs = stopped.climbs;
     }
 
--- a session ended otherwise: the items that were run are those of what was read
+-- a session ended otherwise: each item of what was read was run
 ends : (limit : ℕ) (told : Option (List ℕ)) (faults : ℕ) (reaches : ℕ → ℕ → Type 0) (start after : Standing) (old new : List Entry) (dones : List Done) (items : List Next) (end : End) → IsOpened start old → Advances start after old new items [] dones → ReadTo limit told faults reaches end items → RunsSource limit told faults reaches start.session old new dones end
 ends limit told faults reaches start after old new dones items end at advances read =
     let so_far : IsSoFar old new after items dones = advances.so_far old [] (so_far_opened start old at) in

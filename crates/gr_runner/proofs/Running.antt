@@ -1,108 +1,224 @@
--- How the items of a stream are run, as they stand whole.
-use Rattle.std.proofs.Common.{◌≡◌, ℕ, ◌++◌, Bool, Result, Ok, Err, List, [], ◌∷◌, true, false, refl, sym, ap, ◌∙◌, append_assoc, append-nil}
-use Rattle.std.specs.Result.{IsErr, is_err}
-use Rattle.gr_base.specs.declared.memory.NoMemory.{NoMemory}
+-- Phases that run one after the other, and the run that they make.
+use Rattle.std.proofs.Common.{◌≡◌, ℕ, ◌+◌, ◌-◌, ◌^◌, ◌≤◌, ◌<◌, ◌⊎◌, Option, None, List, [], ◌∷◌, ◌++◌, length, map, take, drop, Vec, Global, refl, sym, ap, ◌∙◌, inl, inr, arith, append-nil, append_assoc, length-append}
+use Rattle.std.proofs.KnownBytes.{Appends-nil, Appends-trans}
+use Rattle.std.proofs.lemmas.Grind.{flat_map-append}
+use Rattle.std.proofs.lemmas.List.{drop_at, length_push, map-append, take_all, take_at, take_rest}
+use Rattle.std.proofs.lemmas.List.Elements.{Contains-append_cases}
+use Rattle.std.specs.Io.KnownBytes.{Appends}
+use Rattle.std.specs.List.{AllByRecursion, Contains, flat_map}
 use Rattle.gr_model.specs.declared.entry.Entry.{Entry}
-use Rattle.gr_session.specs.Step.{Standing}
-use Rattle.gr_session.specs.Stream.{Gives, GivesItem, IsDrained, Stream, left}
-use Rattle.gr_session.specs.declared.command.Next.{Next}
-use Rattle.gr_session.specs.declared.command.Next.TheVariants.{Command as Asked, Bad, NeedMore, End, NoMemory as NoMoreMemory}
-use Rattle.gr_session.specs.declared.session.Done.{Done}
-use Rattle.gr_runner.proofs.Progressing.{advances_none, advances_on, stops_here, stops_on}
-use Rattle.gr_runner.specs.Progress.{Advances, IsReady, RunsAll, RunsPiece, RunsSome, Stops}
+use Rattle.gr_runner.specs.Course.{Course, EndsPhase, IsEnding, RunsPhase, status_of_end}
+use Rattle.gr_runner.specs.History.{IsOwned, sources_of}
+use Rattle.gr_runner.specs.Run.{Run, first_unfinished, texts_of}
+use Rattle.gr_runner.specs.Written.{IsCutOff, IsWrittenWhole}
+use Rattle.gr_runner.specs.declared.report.End.TheVariants.{Finished}
+use Rattle.gr_runner.specs.declared.report.SessionLog.{SessionLog}
+use Rattle.gr_runner.specs.declared.status.Status.{Status}
+use Rattle.gr_runner.specs.declared.status.Status.TheVariants.{Ok, Write, NoMemory}
+use Rattle.gr_runner.proofs.Coursing.{Course-none}
+use Rattle.gr_runner.proofs.Ending.{all_finished, cause_of_end, finished_where_ok, first_unfinished-append, written_of_end}
+use Rattle.gr_runner.proofs.Growing.{all_at, all_of, all_split, all_weaker}
+use Rattle.gr_runner.proofs.Serving.{AreOfFirst}
 
--- items of a stream were run, and the others are left
-pub record RunsSoFar (stream rest : Stream) (before after : Standing) (old new : List Entry) (dones more : List Done) : Type 0 where
-  pub items : List Next
-  pub given : (bytes : List ℕ) (ended : Bool) → left stream bytes ended ≡ items ++ left rest bytes ended
-  pub same_end : rest.ended ≡ stream.ended
-  pub advances : Advances before after old new items dones more
+texts_of-append : (logs more : List SessionLog) → texts_of (logs ++ more) ≡ texts_of logs ++ texts_of more
+texts_of-append logs more = flat_map-append (λ (log : SessionLog). flat_map (λ done. done.text) log.done) logs more
 
-pub runs_none : (stream : Stream) (standing : Standing) (journal : List Entry) (dones : List Done) → IsReady standing journal dones → RunsSoFar stream stream standing standing journal journal dones dones
-runs_none stream standing journal dones ready = record {
-  items = [];
-  given = λ bytes ended. refl;
-  same_end = refl;
-  advances = advances_none standing journal dones ready;
-}
+-- what was added stands after what was there
+pub added_from : {X : Type 0} (all before added : List X) (count : ℕ) → all ≡ before ++ added → count ≡ length before → take (length all - count) (drop count all) ≡ added
+added_from all before added count is same = take_rest all count ∙ ap (drop count) is ∙ drop_at before added count (sym same)
 
--- where no item is left, all were run
-pub runs_all : (stream rest last : Stream) (before after : Standing) (old new : List Entry) (dones more : List Done) (ended : Bool) → RunsSoFar stream rest before after old new dones more → IsDrained rest last ended → RunsAll stream last [] before after old new dones more
-runs_all stream rest last before after old new dones more ended so_far drained = record {
-  items = so_far.items;
-  given = λ bytes whole. so_far.given bytes whole ∙ ap (λ others. so_far.items ++ others) (sym (drained.kept.items bytes whole));
-  same_end = drained.kept.ended ∙ so_far.same_end;
-  drained = rw drained.stage drained.none;
-  advances = so_far.advances;
-}
+-- ---- the lists in vectors
 
--- where no memory was found for the next item, the first were run
-pub runs_first : (stream rest : Stream) (before after : Standing) (old new : List Entry) (dones more : List Done) → RunsSoFar stream rest before after old new dones more → RunsSome stream [] before old new dones more
-runs_first stream rest before after old new dones more so_far = record {
-  items = so_far.items ++ [];
-  given = λ bytes whole. (left rest bytes whole, rw append-nil (so_far.given bytes whole));
-  stops = stops_on before after old new new so_far.items [] dones more more so_far.advances (stops_here after new [] more so_far.advances.ready);
-}
+pub lists_next : {S : Type 0} (rest later : List (Vec S Global)) (sources : Vec S Global) → rest ≡ sources ∷ later → map (λ (phase : Vec S Global). phase.items) rest ≡ sources.items ∷ map (λ (phase : Vec S Global). phase.items) later
+lists_next {S = S} rest later sources is = ap (map (λ (phase : Vec S Global). phase.items)) is
 
--- one more item was run
-pub runs_more : (stream rest last : Stream) (before after then : Standing) (old new newer : List Entry) (item : Next) (dones more most : List Done) → RunsSoFar stream rest before after old new dones more → GivesItem rest last item → Advances after then new newer (item ∷ []) more most → RunsSoFar stream last before then old newer dones most
-runs_more stream rest last before after then old new newer item dones more most so_far gives one = record {
-  items = so_far.items ++ item ∷ [];
-  given = λ bytes whole. so_far.given bytes whole ∙ ap (λ others. so_far.items ++ others) (gives.items bytes whole) ∙ sym (append_assoc so_far.items (item ∷ []) (left last bytes whole));
-  same_end = gives.ended ∙ so_far.same_end;
-  advances = advances_on before after then old new newer so_far.items (item ∷ []) dones more most so_far.advances one;
-}
+pub lists_more : {S : Type 0} (seen : List (Vec S Global)) (sources : Vec S Global) → map (λ (phase : Vec S Global). phase.items) (seen ++ sources ∷ []) ≡ map (λ (phase : Vec S Global). phase.items) seen ++ sources.items ∷ []
+lists_more {S = S} seen sources = map-append (λ (phase : Vec S Global). phase.items) seen (sources ∷ [])
 
--- no memory was found for one more item
-pub runs_until : (stream rest last : Stream) (before after : Standing) (old new newer : List Entry) (item : Next) (dones more most : List Done) → RunsSoFar stream rest before after old new dones more → GivesItem rest last item → Stops after new newer (item ∷ []) more most → RunsSome stream [] before old newer dones most
-runs_until stream rest last before after old new newer item dones more most so_far gives one = record {
-  items = so_far.items ++ item ∷ [];
-  given = λ bytes whole. (left last bytes whole, so_far.given bytes whole ∙ ap (λ others. so_far.items ++ others) (gives.items bytes whole) ∙ sym (append_assoc so_far.items (item ∷ []) (left last bytes whole)));
-  stops = stops_on before after old new newer so_far.items (item ∷ []) dones more most so_far.advances one;
-}
+pub lists_none : {S : Type 0} (rest : List (Vec S Global)) → length rest ≡ 0 → map (λ (phase : Vec S Global). phase.items) rest ≡ []
+lists_none [] none = refl
+lists_none (sources ∷ rest) none = absurd (omega (arith, none))
 
--- what is not a reason to stop is an item
-pub gives_item : (old new : Stream) (item : Next) → (item ≡ NeedMore → ⊥) → (item ≡ End → ⊥) → (item ≡ NoMoreMemory → ⊥) → Gives old new item → GivesItem old new item
-gives_item old new (Asked command) more end memory gives = gives
-gives_item old new (Bad fault) more end memory gives = gives
-gives_item old new NeedMore more end memory gives = absurd (more refl)
-gives_item old new End more end memory gives = absurd (end refl)
-gives_item old new NoMoreMemory more end memory gives = absurd (memory refl)
+module _ {S : Type 0} (told : S → Option (List ℕ)) (faults : S → ℕ) (reaches : S → ℕ → ℕ → Type 0) (limit : ℕ) where
+  module _ (phase : ℕ) (sources : List S) (old new : List Entry) (logs logs_after : List SessionLog) (before after : Option (List ℕ)) (writes writes_after : ℕ) (written : List SessionLog) (runs : RunsPhase told faults reaches limit phase sources old new logs logs_after) (all : written ≡ runs.added) where
+    -- a phase ran and all its texts were written
+    pub ends_whole : (status : Status) → IsWrittenWhole before after writes writes_after (texts_of written) → status ≡ status_of_end (first_unfinished written) → EndsPhase told faults reaches limit phase sources old new logs logs_after before after writes writes_after status
+    ends_whole status whole is = record { runs = runs; ending = inl (rw (← all) whole, is ∙ ap (λ added. status_of_end (first_unfinished added)) all) }
 
-pub runs_piece_starved : (stream rest : Stream) (piece : List ℕ) (before after : Standing) (old new : List Entry) (dones more : List Done) (answer : Result (Unit {0}) NoMemory) → IsErr answer → RunsSome stream piece before old new dones more → RunsPiece stream rest piece before after old new dones more answer
-runs_piece_starved stream rest piece before after old new dones more (Ok done) failed some = absurd (cc)
-runs_piece_starved stream rest piece before after old new dones more (Err none) failed some = some
+    -- a phase ran and a write failed
+    pub ends_cut : IsCutOff before after writes writes_after (texts_of written) → EndsPhase told faults reaches limit phase sources old new logs logs_after before after writes writes_after Write
+    ends_cut off = record { runs = runs; ending = inr (rw (← all) off, refl) }
 
-left_fed : (stream fed : Stream) (piece : List ℕ) → stream.ended ≡ false → fed ≡ record { bytes = stream.bytes ++ piece; ended = false } → (bytes : List ℕ) (ended : Bool) → left stream (piece ++ bytes) ended ≡ left fed bytes ended
-left_fed stream fed piece going same bytes ended = rw (going, same, append_assoc stream.bytes piece bytes) refl
+  -- each entry of a course is of one of its sessions
+  entries_of_first : (phases : List (List S)) (journal : List Entry) (logs : List SessionLog) → Course told faults reaches limit phases journal logs → AreOfFirst (length logs) journal
+  entries_of_first phases journal logs course =
+      all_weaker (IsOwned logs) (λ entry. entry.session.0 ≤ length logs) journal (λ entry owned. let among = (course.sessions owned.log owned.among).number in omega (arith, among, owned.session)) course.history.owners
 
--- what was run of a stream that took a piece was run of the stream before and of the piece
-pub runs_fed : (stream fed rest : Stream) (piece : List ℕ) (before after : Standing) (old new : List Entry) (dones more : List Done) (answer : Result (Unit {0}) NoMemory) → stream.ended ≡ false → fed ≡ record { bytes = stream.bytes ++ piece; ended = false } → RunsPiece fed rest [] before after old new dones more answer → RunsPiece stream rest piece before after old new dones more answer
-runs_fed stream fed rest piece before after old new dones more (Ok done) going same runs = record {
-  items = runs.items;
-  given = λ bytes ended. left_fed stream fed piece going same bytes ended ∙ runs.given bytes ended;
-  same_end = runs.same_end ∙ ap (λ whole. whole.ended) same ∙ sym going;
-  drained = runs.drained;
-  advances = runs.advances;
-}
-runs_fed stream fed rest piece before after old new dones more (Err none) going same runs = record {
-  items = runs.items;
-  given = λ bytes ended. ((runs.given bytes ended).0, left_fed stream fed piece going same bytes ended ∙ (runs.given bytes ended).1);
-  stops = runs.stops;
-}
+  -- some phases ran to their ends, and there is room for the logs of the rest
+  pub record HasRun (phases seen rest : List (List S)) (phase : ℕ) (journal : List Entry) (logs : List SessionLog) (before now : Option (List ℕ)) (writes writes_now room : ℕ) : Type 0 where
+    pub all : phases ≡ seen ++ rest
+    pub count : phase ≡ length seen
+    pub few : length phases < 2 ^ 31
+    pub course : Course told faults reaches limit seen journal logs
+    pub finished : first_unfinished logs ≡ None
+    pub taken : Appends before now (texts_of logs)
+    pub same : writes_now ≡ writes
+    pub countable : AllByRecursion (λ source. faults source < 2 ^ 64 - 1) (sources_of rest)
+    pub numbers : length logs + length (sources_of rest) < 2 ^ 31
+    pub places : length logs + length (sources_of rest) ≤ room
 
--- no memory was found for a piece
-pub runs_unfed : (stream : Stream) (piece : List ℕ) (standing : Standing) (journal : List Entry) (dones : List Done) → IsReady standing journal dones → RunsSome stream piece standing journal journal dones dones
-runs_unfed stream piece standing journal dones ready = record {
-  items = [];
-  given = λ bytes ended. (left stream (piece ++ bytes) ended, refl);
-  stops = stops_here standing journal [] dones ready;
-}
+  pub has_begun : (phases rest : List (List S)) (journal : List Entry) (logs : List SessionLog) (before : Option (List ℕ)) (writes room : ℕ) → rest ≡ phases → journal ≡ [] → logs ≡ [] → length phases < 2 ^ 31 → AllByRecursion (λ source. faults source < 2 ^ 64 - 1) (sources_of phases) → length (sources_of phases) < 2 ^ 31 → length (sources_of phases) ≤ room → HasRun phases [] rest 0 journal logs before before writes writes room
+  has_begun phases rest journal logs before writes room same no_entries no_logs few countable numbers places = record {
+    all = sym same;
+    count = refl;
+    few = few;
+    course = rw (no_entries, no_logs) (Course-none told faults reaches limit);
+    finished = rw no_logs refl;
+    taken = rw no_logs (Appends-nil before);
+    same = refl;
+    countable = rw same countable;
+    numbers = rw (same, no_logs) (omega (arith, numbers));
+    places = rw (same, no_logs) (omega (arith, places));
+  }
 
-pub runs_some : (stream rest : Stream) (piece : List ℕ) (before after : Standing) (old new : List Entry) (dones more : List Done) (answer : Result (Unit {0}) NoMemory) → is_err answer ≡ true → RunsPiece stream rest piece before after old new dones more answer → RunsSome stream piece before old new dones more
-runs_some stream rest piece before after old new dones more (Ok done) failed runs = absurd (cc)
-runs_some stream rest piece before after old new dones more (Err none) failed runs = runs
+  module _ (phases seen rest later : List (List S)) (sources : List S) (phase : ℕ) (old : List Entry) (logs : List SessionLog) (before now : Option (List ℕ)) (writes writes_now room : ℕ) (rest_is : rest ≡ sources ∷ later) (ran : HasRun phases seen rest phase old logs before now writes writes_now room) where
+    sources_are : sources_of rest ≡ sources ++ sources_of later
+    sources_are = ap sources_of rest_is
 
-pub runs_whole : (stream rest : Stream) (piece : List ℕ) (before after : Standing) (old new : List Entry) (dones more : List Done) (answer : Result (Unit {0}) NoMemory) → is_err answer ≡ false → RunsPiece stream rest piece before after old new dones more answer → RunsAll stream rest piece before after old new dones more
-runs_whole stream rest piece before after old new dones more (Ok done) failed runs = runs
-runs_whole stream rest piece before after old new dones more (Err none) failed runs = absurd (cc)
+    left : length (sources_of rest) ≡ length sources + length (sources_of later)
+    left = ap length sources_are ∙ length-append sources (sources_of later)
+
+    countable_are : AllByRecursion (λ source. faults source < 2 ^ 64 - 1) sources × AllByRecursion (λ source. faults source < 2 ^ 64 - 1) (sources_of later)
+    countable_are = all_split (λ source. faults source < 2 ^ 64 - 1) sources (sources_of later) (rw sources_are at ran.countable)
+
+    -- what the next phase requires
+    pub next_countable : AllByRecursion (λ source. faults source < 2 ^ 64 - 1) sources
+    next_countable = countable_are.0
+
+    pub next_numbers : length logs + length sources < 2 ^ 31
+    next_numbers = omega (arith, left, ran.numbers)
+
+    pub next_places : length logs + length sources ≤ room
+    next_places = omega (arith, left, ran.places)
+
+    pub next_entries : AreOfFirst (length logs) old
+    next_entries = entries_of_first seen old logs ran.course
+
+    phases_are : phases ≡ (seen ++ sources ∷ []) ++ later
+    phases_are = ran.all ∙ ap (λ other. seen ++ other) rest_is ∙ sym (append_assoc seen (sources ∷ []) later)
+
+    among_all : phase + 1 ≤ length phases
+    among_all = omega (arith, ran.count, ap length phases_are, length-append (seen ++ sources ∷ []) later, length_push seen sources)
+
+    pub next_fits : phase + 1 < 2 ^ 32
+    next_fits = omega (arith, among_all, ran.few)
+
+    taken_phases : take (phase + 1) phases ≡ seen ++ sources ∷ []
+    taken_phases = ap (take (phase + 1)) phases_are ∙ take_at (seen ++ sources ∷ []) later (phase + 1) (omega (arith, length_push seen sources, ran.count))
+
+    module _ (new : List Entry) (logs_after : List SessionLog) (runs : RunsPhase told faults reaches limit (phase + 1) sources old new logs logs_after) where
+      course_after : Course told faults reaches limit (seen ++ sources ∷ []) new logs_after
+      course_after = runs.goes_on seen (ap (λ count. count + 1) ran.count) ran.course
+
+      unfinished_after : first_unfinished logs_after ≡ first_unfinished runs.added
+      unfinished_after = ap first_unfinished runs.logs ∙ first_unfinished-append logs runs.added ran.finished
+
+      taken_after : (next : Option (List ℕ)) (piece : List ℕ) → Appends now next piece → Appends before next (texts_of logs ++ piece)
+      taken_after next piece appends = Appends-trans before now next (texts_of logs) piece ran.taken appends
+
+      texts_after : texts_of logs_after ≡ texts_of logs ++ texts_of runs.added
+      texts_after = ap texts_of runs.logs ∙ texts_of-append logs runs.added
+
+      last_after : (log : SessionLog) → Contains logs log ⊎ Contains runs.added log → (log.end ≡ Finished → ⊥) → log.phase ≡ phase + 1
+      last_after log (inl earlier) not = absurd (not (all_at (λ other. other.end ≡ Finished) logs log (all_finished logs ran.finished) earlier))
+      last_after log (inr here) not = all_at (λ other. other.phase ≡ phase + 1) runs.added log runs.phase_is here
+
+      among_after : (log : SessionLog) → Contains logs_after log → Contains logs log ⊎ Contains runs.added log
+      among_after log among = Contains-append_cases logs runs.added log (rw runs.logs at among)
+
+      earlier_phases : AllByRecursion (λ log. log.phase < phase + 1) logs
+      earlier_phases = all_of (λ log. log.phase < phase + 1) logs (λ log among. let within = (ran.course.sessions log among).phase in omega (arith, within, ran.count))
+
+      has_run : (next : Option (List ℕ)) (writes_next room_after : ℕ) (seen_after : List (List S)) → seen_after ≡ seen ++ sources ∷ [] → room ≤ room_after → IsWrittenWhole now next writes_now writes_next (texts_of runs.added) → first_unfinished runs.added ≡ None → HasRun phases seen_after later (phase + 1) new logs_after before next writes writes_next room_after
+      has_run next writes_next room_after seen_after seen_is roomier whole none =
+          let count : length logs_after ≡ length logs + length sources = ap length runs.logs ∙ length-append logs runs.added ∙ ap (λ more. length logs + more) runs.count in
+          record {
+            all = rw seen_is phases_are;
+            count = rw seen_is (omega (arith, length_push seen sources, ran.count));
+            few = ran.few;
+            course = rw seen_is course_after;
+            finished = unfinished_after ∙ none;
+            taken = rw texts_after (taken_after next (texts_of runs.added) whole.taken);
+            same = whole.same ∙ ran.same;
+            countable = countable_are.1;
+            numbers = omega (arith, count, left, ran.numbers);
+            places = omega (arith, count, left, ran.places, roomier);
+          }
+
+      run_of : (next : Option (List ℕ)) (writes_next : ℕ) (status : Status) → IsEnding now next writes_now writes_next runs.added status → (status ≡ Ok → ⊥) → Run told faults reaches limit phases (record { status = status; journal = new; sessions = logs_after }) before next (writes < writes_next)
+      run_of next writes_next status (inl both) not_ok = record {
+        started = phase + 1;
+        among = among_all;
+        history = rw taken_phases course_after.history;
+        last = λ log among not. last_after log (among_after log among) not;
+        cause = rw both.1 (cause_of_end phases (phase + 1) logs_after (writes < writes_next) (first_unfinished runs.added) unfinished_after (λ risen. omega (arith, risen, both.0.same, ran.same)) (λ is. not_ok (both.1 ∙ is)));
+        written = rw both.1 (written_of_end (first_unfinished runs.added) (phase + 1) logs_after before next (rw texts_after (taken_after next (texts_of runs.added) both.0.taken)));
+      }
+      run_of next writes_next status (inr both) not_ok =
+          let risen : writes < writes_next = omega (arith, both.0.risen, ran.same) in
+          record {
+            started = phase + 1;
+            among = among_all;
+            history = rw taken_phases course_after.history;
+            last = λ log among not. last_after log (among_after log among) not;
+            cause = rw both.1 risen;
+            written = rw both.1 (record {
+              earlier = logs;
+              last = runs.added;
+              split = runs.logs;
+              earlier_phases = earlier_phases;
+              last_phase = runs.phase_is;
+              piece = both.0.piece;
+              rest = both.0.rest;
+              text = both.0.text_is;
+              taken = taken_after next both.0.piece both.0.taken;
+            });
+          }
+
+      ran_on-by : (next : Option (List ℕ)) (writes_next room_after : ℕ) (seen_after : List (List S)) → seen_after ≡ seen ++ sources ∷ [] → room ≤ room_after → IsEnding now next writes_now writes_next runs.added Ok → HasRun phases seen_after later (phase + 1) new logs_after before next writes writes_next room_after
+      ran_on-by next writes_next room_after seen_after seen_is roomier (inl both) = has_run next writes_next room_after seen_after seen_is roomier both.0 (finished_where_ok runs.added both.1)
+      ran_on-by next writes_next room_after seen_after seen_is roomier (inr both) = cc
+
+    -- a phase more ran to its end
+    pub ran_on : (new : List Entry) (logs_after : List SessionLog) (next : Option (List ℕ)) (writes_next room_after : ℕ) (seen_after : List (List S)) → seen_after ≡ seen ++ sources ∷ [] → room ≤ room_after → EndsPhase told faults reaches limit (phase + 1) sources old new logs logs_after now next writes_now writes_next Ok → HasRun phases seen_after later (phase + 1) new logs_after before next writes writes_next room_after
+    ran_on new logs_after next writes_next room_after seen_after seen_is roomier ends = ran_on-by new logs_after ends.runs next writes_next room_after seen_after seen_is roomier ends.ending
+
+    -- a phase ended otherwise, and with it the run
+    pub ended : (new : List Entry) (logs_after : List SessionLog) (next : Option (List ℕ)) (writes_next : ℕ) (status : Status) → EndsPhase told faults reaches limit (phase + 1) sources old new logs logs_after now next writes_now writes_next status → (status ≡ Ok → ⊥) → Run told faults reaches limit phases (record { status = status; journal = new; sessions = logs_after }) before next (writes < writes_next)
+    ended new logs_after next writes_next status ends not_ok = run_of new logs_after ends.runs next writes_next status ends.ending not_ok
+
+  -- all phases ran to their ends
+  pub completed : (phases seen rest : List (List S)) (phase : ℕ) (journal : List Entry) (logs : List SessionLog) (before now : Option (List ℕ)) (writes writes_now room : ℕ) → rest ≡ [] → HasRun phases seen rest phase journal logs before now writes writes_now room → Run told faults reaches limit phases (record { status = Ok; journal = journal; sessions = logs }) before now (writes < writes_now)
+  completed phases seen rest phase journal logs before now writes writes_now room none ran =
+      let same : phases ≡ seen = ran.all ∙ ap (λ other. seen ++ other) none ∙ append-nil seen in
+      let whole : phase ≡ length phases = ran.count ∙ ap length (sym same) in
+      let taken_all : take phase phases ≡ seen = take_all phase phases (omega (arith, whole)) ∙ same in
+      record {
+        started = phase;
+        among = omega (arith, whole);
+        history = rw taken_all ran.course.history;
+        last = λ log among not. absurd (not (all_at (λ other. other.end ≡ Finished) logs log (all_finished logs ran.finished) among));
+        cause = record { all = whole; finished = ran.finished; written = λ risen. omega (arith, risen, ran.same) };
+        written = ran.taken;
+      }
+
+  -- no room was found for the logs
+  pub not_begun : (phases : List (List S)) (before : Option (List ℕ)) (writes : ℕ) → Run told faults reaches limit phases (record { status = NoMemory; journal = []; sessions = [] }) before before (writes < writes)
+  not_begun phases before writes = record {
+    started = 0;
+    among = omega arith;
+    history = (Course-none told faults reaches limit).history;
+    last = λ log among not. absurd (omega (arith, among.1));
+    cause = record { first = inr refl; written = λ risen. omega (arith, risen) };
+    written = Appends-nil before;
+  }

@@ -1,9 +1,10 @@
-pub mod Sources
-pub mod Sessions
+pub mod Course
 pub mod History
-pub mod Run
 pub mod Main
+pub mod Progress
+pub mod Run
 pub mod Served
+pub mod Sessions
+pub mod Sources
 pub mod Status
 pub mod Written
-pub mod Progress

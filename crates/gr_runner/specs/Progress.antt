@@ -1,5 +1,5 @@
 -- How far a session has come, and what a stretch of its commands does.
-use Rattle.std.specs.Prelude.{ℕ, ◌≡◌, ◌<◌, ◌≤◌, ◌⊎◌, ◌++◌, Bool, true, false, Option, Result, Ok, Err, List, [], ◌∷◌, length}
+use Rattle.std.specs.Prelude.{ℕ, ◌≡◌, ◌<◌, ◌≤◌, ◌⊎◌, ◌++◌, Bool, false, Option, Result, Ok, Err, List, [], ◌∷◌, length}
 use Rattle.std.specs.List.{AllByRecursion}
 use Rattle.gr_base.specs.declared.memory.NoMemory.{NoMemory}
 use Rattle.gr_model.specs.Accepted.{IsAccepted}

@@ -6,6 +6,8 @@ mod program;
 mod report;
 mod serial;
 mod status;
+#[cfg(test)]
+mod tests;
 mod write;
 
 pub use program::main_call;

@@ -1,9 +1,10 @@
 // A run on one thread: the sessions of each phase one after the other, in file order.
-ghost use Rattle.std.specs.Prelude.{◌≡◌, ◌<◌, ◌≤◌, ◌-◌, ◌^◌, map, length};
+ghost use Rattle.std.specs.Prelude.{◌≡◌, ◌+◌, ◌<◌, ◌≤◌, ◌-◌, ◌^◌, [], map, length, vec_capacity, IfOk};
 ghost use Rattle.std.specs.List.{AllByRecursion};
 ghost use Rattle.gr_base.specs.Limits.{IsInRange};
+ghost use Rattle.gr_runner.specs.Course.{EndsPhase, RunsPhase, status_of_end};
 ghost use Rattle.gr_runner.specs.History.{sources_of};
-ghost use Rattle.gr_runner.specs.Run.{Run};
+ghost use Rattle.gr_runner.specs.Run.{Run, first_unfinished};
 
 use super::commands::run_session;
 use super::write::write_logs;
@@ -29,13 +30,16 @@ pub fn run_serial<S: Source + Drop, K: Sink>(
         (K.taken sink.old) (K.taken sink.new) (K.faults sink.old < K.faults sink.new) }
 {
     let mut state = State::new(alloc);
-    let (status, logs) = match room_for_logs(alloc, &phases) {
-        Ok(mut logs) => {
-            let status = run_phases(alloc, limits.source, phases, &mut state, &mut logs, sink);
-            (status, logs)
-        }
-        Err(NoMemory) => (Status::NoMemory, Vec::new(alloc)),
+    let Ok(mut logs) = room_for_logs(alloc, &phases) else {
+        return report(Status::NoMemory, state, Vec::new(alloc));
     };
+    let status = run_phases(alloc, limits.source, phases, &mut state, &mut logs, sink);
+    report(status, state, logs)
+}
+
+fn report(status: Status, state: State, logs: Vec<SessionLog>) -> Report
+    ensures { result ≡ record { status = status; journal = state; sessions = logs.items } }
+{
     Report {
         status,
         journal: state.into_journal(),
@@ -44,7 +48,11 @@ pub fn run_serial<S: Source + Drop, K: Sink>(
 }
 
 // Room for the log of each session.
-fn room_for_logs<S>(alloc: Global, phases: &[Vec<S>]) -> Result<Vec<SessionLog>, NoMemory> {
+fn room_for_logs<S>(alloc: Global, phases: &[Vec<S>]) -> Result<Vec<SessionLog>, NoMemory>
+    requires { length (sources_of (map (λ sources. sources.items) phases.now)) < 2 ^ 31 }
+    ensures none { IfOk result (λ logs. logs.items ≡ []) }
+    ensures room { IfOk result (λ logs. length (sources_of (map (λ sources. sources.items) phases.now)) ≤ vec_capacity logs) }
+{
     let mut sources = 0;
     for phase in phases {
         sources += phase.len();
@@ -60,24 +68,60 @@ fn run_phases<S: Source + Drop, K: Sink>(
     state: &mut State,
     logs: &mut Vec<SessionLog>,
     sink: &mut K,
-) -> Status {
+) -> Status
+    requires limit { limit ≤ 2 ^ 28 }
+    requires phases { length phases.items < 2 ^ 31 }
+    requires sources { length (sources_of (map (λ sources. sources.items) phases.items)) < 2 ^ 31 }
+    requires sources_countable { AllByRecursion (λ source. S.faults source < 2 ^ 64 - 1) (sources_of (map (λ sources. sources.items) phases.items)) }
+    requires sink_countable { K.faults sink.old < 2 ^ 64 - 1 }
+    requires no_entries { state.old ≡ [] }
+    requires no_logs { logs.old.items ≡ [] }
+    requires room { length (sources_of (map (λ sources. sources.items) phases.items)) ≤ vec_capacity logs.old }
+    ensures { Run S.left S.faults S.reaches limit (map (λ sources. sources.items) phases.items)
+        (record { status = result; journal = state.new; sessions = logs.new.items })
+        (K.taken sink.old) (K.taken sink.new) (K.faults sink.old < K.faults sink.new) }
+{
     let mut phase = 0;
     for sources in phases {
         phase += 1;
-        let before = logs.len();
-        run_phase(alloc, limit, phase, sources, state, logs);
-        if write_logs(sink, &logs[before..]).is_err() {
-            return Status::Write;
-        }
-        let status = status_of(&logs[before..]);
-        if status != Status::Ok {
-            return status;
+        match run_and_write(alloc, limit, phase, sources, state, logs, sink) {
+            Status::Ok => {}
+            ended => return ended,
         }
     }
     Status::Ok
 }
 
-// Runs the sessions of one phase.
+// Runs one phase and writes its texts, and says how it ended.
+fn run_and_write<S: Source + Drop, K: Sink>(
+    alloc: Global,
+    limit: u64,
+    phase: u32,
+    sources: Vec<S>,
+    state: &mut State,
+    logs: &mut Vec<SessionLog>,
+    sink: &mut K,
+) -> Status
+    requires limit { limit ≤ 2 ^ 28 }
+    requires sources { length logs.old.items + length sources.items < 2 ^ 31 }
+    requires room { length logs.old.items + length sources.items ≤ vec_capacity logs.old }
+    requires sources_countable { AllByRecursion (λ source. S.faults source < 2 ^ 64 - 1) sources.items }
+    requires sink_countable { K.faults sink.old < 2 ^ 64 - 1 }
+    requires entries { AllByRecursion (λ entry. entry.session.0 ≤ length logs.old.items) state.old }
+    ensures room { vec_capacity logs.old ≤ vec_capacity logs.new }
+    ensures ends { EndsPhase S.left S.faults S.reaches limit phase sources.items state.old state.new logs.old.items logs.new.items
+        (K.taken sink.old) (K.taken sink.new) (K.faults sink.old) (K.faults sink.new) result }
+{
+    let before = logs.len();
+    run_phase(alloc, limit, phase, sources, state, logs);
+    let added = &logs[before..];
+    match write_logs(sink, added) {
+        Ok(()) => status_of(added),
+        Err(_) => Status::Write,
+    }
+}
+
+// Runs the sessions of one phase, each in the place that is kept for its log.
 fn run_phase<S: Source + Drop>(
     alloc: Global,
     limit: u64,
@@ -85,7 +129,15 @@ fn run_phase<S: Source + Drop>(
     sources: Vec<S>,
     state: &mut State,
     logs: &mut Vec<SessionLog>,
-) {
+)
+    requires limit { limit ≤ 2 ^ 28 }
+    requires sources { length logs.old.items + length sources.items < 2 ^ 31 }
+    requires room { length logs.old.items + length sources.items ≤ vec_capacity logs.old }
+    requires sources_countable { AllByRecursion (λ source. S.faults source < 2 ^ 64 - 1) sources.items }
+    requires entries { AllByRecursion (λ entry. entry.session.0 ≤ length logs.old.items) state.old }
+    ensures room { vec_capacity logs.old ≤ vec_capacity logs.new }
+    ensures runs { RunsPhase S.left S.faults S.reaches limit phase sources.items state.old state.new logs.old.items logs.new.items }
+{
     for source in sources {
         let number = SessionNo(logs.len() as u32 + 1);
         let log = run_session(alloc, limit, number, phase, state, source);
@@ -97,7 +149,9 @@ fn run_phase<S: Source + Drop>(
 }
 
 // The status of the first session that is not finished.
-fn status_of(logs: &[SessionLog]) -> Status {
+fn status_of(logs: &[SessionLog]) -> Status
+    ensures { result ≡ status_of_end (first_unfinished logs.now) }
+{
     for log in logs {
         match log.end {
             End::Finished => {}

@@ -1,6 +1,6 @@
 -- Each item that is run goes to those that were, and where no memory is found the others are left.
 use Rattle.std.proofs.Common.{[]}
-use Rattle.gr_runner.proofs.Running.{gives_item, runs_first, runs_more, runs_piece_starved, runs_until}
+use Rattle.gr_runner.proofs.RunningCommands.{gives_item, runs_first, runs_more, runs_piece_starved, runs_until}
 use Rattle.gr_runner.proofs.commands.run_commands.Goals as goal
 
 pub returns-in-NoMemory : goal.returns-in-NoMemory

@@ -1,7 +1,6 @@
 -- The items so far were run, and those in the reader are left.
-use Rattle.std.proofs.Common.{ℕ, length, [], ◌++◌}
-use Rattle.gr_runner.specs.Progress.{Advances}
-use Rattle.gr_runner.proofs.Running.{RunsSoFar}
+use Rattle.std.proofs.Common.{length}
+use Rattle.gr_runner.proofs.RunningCommands.{RunsSoFar}
 use Rattle.gr_runner.proofs.commands.run_commands.Given as goal
 
 abbrev pub invariant-commands : goal.invariant-commands

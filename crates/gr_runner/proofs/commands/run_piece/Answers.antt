@@ -1,5 +1,5 @@
 -- The piece is fed and its items are run, or no memory was found for it.
-use Rattle.gr_runner.proofs.Running.{runs_fed, runs_piece_starved, runs_unfed}
+use Rattle.gr_runner.proofs.RunningCommands.{runs_fed, runs_piece_starved, runs_unfed}
 use Rattle.gr_runner.proofs.commands.run_piece.Goals as goal
 
 pub returns-in_err-feed : goal.returns-in_err-feed

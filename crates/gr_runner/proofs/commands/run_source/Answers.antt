@@ -1,7 +1,7 @@
 -- How each read goes on, and how the reading ends.
 use Rattle.std.proofs.Common.{arith, drop, length, rules, sym, take, ◌∙◌}
 use Rattle.std.proofs.lemmas.List.{take_at}
-use Rattle.gr_runner.proofs.Running.{runs_some, runs_whole}
+use Rattle.gr_runner.proofs.RunningCommands.{runs_some, runs_whole}
 use Rattle.gr_runner.proofs.Reading.{ends_failed, ends_finished, ends_starved_last, ends_unread, piece_read, piece_starved, piece_too_long, reading_none}
 use Rattle.gr_runner.proofs.commands.run_source.Goals as goal
 use Rattle.gr_runner.proofs.commands.run_source.Goals.{in-Ok-run_commands, in-Err-run_commands}
@@ -50,6 +50,6 @@ loop-reader-preserved g c = record {
 
 pub returns-in-Err : goal.returns-in-Err
 returns-in-Err g c =
-    rw (← c.in-Err.faults-is) (ends_failed c.args.limit (g.S.Source.left c.args.source) (g.S.Source.left c.loop-reader.source) (g.S.Source.faults c.args.source) (g.S.Source.faults c.loop-reader.source) (g.S.Source.reaches c.args.source) (g.S.Source.reaches c.loop-reader.source) c.loop-reader.total c.loop-reader.reader c.args.session c.loop-reader.session c.args.state.now c.loop-reader.state c.loop-reader.done.items (record { opened = c.requires.opened; first = c.requires.first }) c.loop-reader.invariant.reading
+    ends_failed c.args.limit (g.S.Source.left c.args.source) (g.S.Source.left c.loop-reader.source) (g.S.Source.faults c.args.source) (g.S.Source.faults c.loop-reader.source) (g.S.Source.reaches c.args.source) (g.S.Source.reaches c.loop-reader.source) c.loop-reader.total c.loop-reader.reader c.args.session c.loop-reader.session c.args.state.now c.loop-reader.state c.loop-reader.done.items (record { opened = c.requires.opened; first = c.requires.first }) c.loop-reader.invariant.reading
     c.in-Err.field-0.faults (omega (arith, c.in-Err.ensures.faults.0, c.in-Err.ensures.faults.1))
-    (c.in-Err.ensures.pairs 0 c.in-Err.field-0.faults (rw c.in-Err.ensures.faults.1 (g.met.S.Source.reaches_now c.read.new.self))))
+    (c.in-Err.ensures.pairs 0 c.in-Err.field-0.faults (rw c.in-Err.ensures.faults.1 (g.met.S.Source.reaches_now c.read.new.self)))

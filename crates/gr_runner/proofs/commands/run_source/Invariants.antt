@@ -1,5 +1,5 @@
 -- The bytes given so far are within the limit, and the items that stand whole in them were run.
-use Rattle.std.proofs.Common.{◌≡◌, ℕ, ◌+◌, ◌-◌, length}
+use Rattle.std.proofs.Common.{◌≡◌, ◌+◌, ◌-◌, length}
 use Rattle.gr_runner.proofs.Reading.{IsReading}
 use Rattle.gr_runner.proofs.commands.run_source.Given as goal
 

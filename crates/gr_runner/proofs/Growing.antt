@@ -1,0 +1,132 @@
+-- What holds of earlier sessions where the journal grows by the entries of a later one.
+use Rattle.std.proofs.Common.{◌≡◌, ℕ, zero, suc, ◌+◌, ◌==◌, ◌≤◌, ◌<◌, ◌⊎◌, false, Option, Some, List, [], ◌∷◌, ◌++◌, length, inl, inr, refl, sym, ◌∙◌, arith, length-append}
+use Rattle.std.proofs.lemmas.Bool.Decides.{nat_tests}
+use Rattle.std.proofs.lemmas.List.Elements.{All-contains, All-from_recursion, Contains-append_left, Contains-get_or, Contains-push, recursion_from_All}
+use Rattle.std.specs.List.{AllByRecursion, Contains, slice_get}
+use Rattle.gr_model.specs.declared.entry.Entry.{Entry}
+use Rattle.gr_session.specs.Own.{is_own}
+use Rattle.gr_session.specs.declared.command.Next.{Next}
+use Rattle.gr_session.specs.declared.session.Done.{Done}
+use Rattle.gr_session.proofs.Owning.{IsStarved-more, Reply-more}
+use Rattle.gr_runner.specs.History.{AllHold, IsBefore, IsOwned}
+use Rattle.gr_runner.specs.Served.{IsOfSession}
+use Rattle.gr_runner.specs.Sessions.{AreAnswered, Climbs, Holds, Replies}
+use Rattle.gr_runner.specs.declared.report.End.{End}
+use Rattle.gr_runner.specs.declared.report.SessionLog.{SessionLog}
+
+-- ---- lists
+
+pub all_weaker : {X : Type 0} (P Q : X → Type 0) (xs : List X) → ((x : X) → P x → Q x) → AllByRecursion P xs → AllByRecursion Q xs
+all_weaker P Q [] weaker all = tt
+all_weaker P Q (x ∷ xs) weaker all = (weaker x all.0, all_weaker P Q xs weaker all.1)
+
+pub all_append : {X : Type 0} (P : X → Type 0) (xs ys : List X) → AllByRecursion P xs → AllByRecursion P ys → AllByRecursion P (xs ++ ys)
+all_append P [] ys all more = more
+all_append P (x ∷ xs) ys all more = (all.0, all_append P xs ys all.1 more)
+
+pub all_split : {X : Type 0} (P : X → Type 0) (xs ys : List X) → AllByRecursion P (xs ++ ys) → AllByRecursion P xs × AllByRecursion P ys
+all_split P [] ys all = (tt, all)
+all_split P (x ∷ xs) ys all = let rest = all_split P xs ys all.1 in ((all.0, rest.0), rest.1)
+
+pub all_at : {X : Type 0} (P : X → Type 0) (xs : List X) (x : X) → AllByRecursion P xs → Contains xs x → P x
+all_at P xs x all among = All-contains P xs x (All-from_recursion P xs all) among
+
+pub all_of : {X : Type 0} (P : X → Type 0) (xs : List X) → ((x : X) → Contains xs x → P x) → AllByRecursion P xs
+all_of P xs each = recursion_from_All P xs (λ place other within. each _ (Contains-get_or xs place other within))
+
+all_there : {X : Type 0} (P : X → Type 0) (xs : List X) (place : ℕ) (x : X) → AllByRecursion P xs → slice_get xs place ≡ Some x → P x
+all_there P [] place x all is = cc
+all_there P (first ∷ xs) zero x all is = let same : first ≡ x = cc in rw (← same) all.0
+all_there P (first ∷ xs) (suc place) x all is = all_there P xs place x all.1 is
+
+-- what stands at a place of a list and more stands in the list there, or is of what was added
+pub at_or_added : {X : Type 0} (P : X → Type 0) (xs added : List X) (place : ℕ) (x : X) → AllByRecursion P added → slice_get (xs ++ added) place ≡ Some x → ((place < length xs) × (slice_get xs place ≡ Some x)) ⊎ P x
+at_or_added P [] added place x all is = inr (all_there P added place x all is)
+at_or_added P (first ∷ xs) added zero x all is = inl (omega arith, is)
+at_or_added P (first ∷ xs) added (suc place) x all is =
+    elim (at_or_added P xs added place x all is) [ inl there ↦ inl (omega arith, there.1) | inr new ↦ inr new ]
+
+-- ---- the entries of another session
+
+not_own : (session command number : ℕ) (entry : Entry) → session < number → entry.session.0 ≡ number → is_own session command entry ≡ false
+not_own session command number entry earlier is =
+    let apart : (entry.session.0 == session) ≡ false = grind (arith, nat_tests) in
+    rw apart refl
+
+others : (session command number count : ℕ) (added : List Entry) → session < number → AllByRecursion (IsOfSession number count) added → AllByRecursion (λ entry. is_own session command entry ≡ false) added
+others session command number count added earlier owned =
+    all_weaker (IsOfSession number count) (λ entry. is_own session command entry ≡ false) added (λ entry of_session. not_own session command number entry earlier of_session.session) owned
+
+Replies-more : (journal more : List Entry) (session command : ℕ) (items : List Next) (done : List Done) (end : End) → ((number : ℕ) → AllByRecursion (λ entry. is_own session number entry ≡ false) more) → Replies journal session command items done end → Replies (journal ++ more) session command items done end
+Replies-more journal more session command items [] end apart replies = replies
+Replies-more journal more session command [] (reply ∷ done) end apart replies = absurd replies
+Replies-more journal more session command (item ∷ items) (reply ∷ done) end apart (inl both) =
+    inl (Reply-more journal more session command item reply (apart command) both.0, Replies-more journal more session (command + 1) items done end apart both.1)
+Replies-more journal more session command (item ∷ items) (reply ∷ done) end apart (inr starved) =
+    inr (IsStarved-more journal more session command item reply (apart command) starved.0, starved.1, starved.2)
+
+-- ---- places that climb
+
+Climbs-longer : (low top further : ℕ) (done : List Done) → top ≤ further → Climbs low done top → Climbs low done further
+Climbs-longer low top further [] longer climbs = omega (arith, climbs)
+Climbs-longer low top further (reply ∷ done) longer climbs = (climbs.0, climbs.1, Climbs-longer reply.mark top further done longer climbs.2)
+
+Climbs-top : (low top : ℕ) (done : List Done) → Climbs low done top → low ≤ top
+Climbs-top low top [] climbs = climbs
+Climbs-top low top (reply ∷ done) climbs = let rest = Climbs-top reply.mark top done climbs.2 in omega (arith, climbs.0, climbs.1, rest)
+
+pub Climbs-marks : (low top : ℕ) (done : List Done) → Climbs low done top → AllByRecursion (λ reply. reply.mark ≤ top) done
+Climbs-marks low top [] climbs = tt
+Climbs-marks low top (reply ∷ done) climbs = (Climbs-top reply.mark top done climbs.2, Climbs-marks reply.mark top done climbs.2)
+
+-- ---- owners
+
+pub owners-more : (logs : List SessionLog) (log : SessionLog) (number : ℕ) (old added : List Entry) → log.number.0 ≡ number → AllByRecursion (IsOwned logs) old → AllByRecursion (IsOfSession number (length log.done)) added → AllByRecursion (IsOwned (logs ++ log ∷ [])) (old ++ added)
+owners-more logs log number old added is owners owned =
+    let earlier = all_weaker (IsOwned logs) (IsOwned (logs ++ log ∷ [])) old
+        (λ entry of_log. record { log = of_log.log; among = Contains-append_left logs (log ∷ []) of_log.log of_log.among; session = of_log.session; command = of_log.command }) owners in
+    let later = all_weaker (IsOfSession number (length log.done)) (IsOwned (logs ++ log ∷ [])) added
+        (λ entry of_session. record { log = log; among = Contains-push logs log; session = of_session.session ∙ sym is; command = of_session.command }) owned in
+    all_append (IsOwned (logs ++ log ∷ [])) old added earlier later
+
+-- ---- phases
+
+-- what stood before a session opened still does
+pub IsBefore-more : (old added : List Entry) (number count : ℕ) (earlier later : SessionLog) → earlier.number.0 < number → AllByRecursion (IsOfSession number count) added → IsBefore old earlier later → IsBefore (old ++ added) earlier later
+IsBefore-more old added number count earlier later apart owned before = record {
+  marks = before.marks;
+  entries = λ place entry is session. elim (at_or_added (IsOfSession number count) old added place entry owned is) [ inl there ↦ before.entries place entry there.1 session | inr new ↦ absurd (omega (arith, new.session, session, apart)) ];
+}
+
+-- an earlier session stood before one that opened at the end of the journal
+pub IsBefore-opened : (old added : List Entry) (number count : ℕ) (earlier log : SessionLog) → earlier.number.0 < number → log.opened ≡ length old → AllByRecursion (IsOfSession number count) added → AllByRecursion (λ reply. reply.mark ≤ length old) earlier.done → IsBefore (old ++ added) earlier log
+IsBefore-opened old added number count earlier log apart opened owned marks = record {
+  marks = rw opened marks;
+  entries = λ place entry is session. elim (at_or_added (IsOfSession number count) old added place entry owned is) [ inl there ↦ rw opened there.0 | inr new ↦ absurd (omega (arith, new.session, session, apart)) ];
+}
+
+-- ---- sessions
+
+module _ (limit : ℕ) (old added : List Entry) (number count : ℕ) (owned : AllByRecursion (IsOfSession number count) added) where
+  Holds-more : (told : Option (List ℕ)) (faults : ℕ) (reaches : ℕ → ℕ → Type 0) (log : SessionLog) → log.number.0 < number → Holds limit told faults reaches old log → Holds limit told faults reaches (old ++ added) log
+  Holds-more told faults reaches log earlier holds = record {
+    items = holds.items;
+    read = holds.read;
+    replies = Replies-more old added log.number.0 0 holds.items log.done log.end (λ command. others log.number.0 command number count added earlier owned) holds.replies;
+    climbs = Climbs-longer log.opened (length old) (length (old ++ added)) log.done (omega (arith, length-append old added)) holds.climbs;
+  }
+
+  module _ {S : Type 0} (told : S → Option (List ℕ)) (faults : S → ℕ) (reaches : S → ℕ → ℕ → Type 0) where
+    -- earlier sessions still hold, and one more does
+    pub AllHold-more : (sources : List S) (logs : List SessionLog) (source : S) (log : SessionLog) → AllByRecursion (λ log. log.number.0 < number) logs → AllHold told faults reaches limit old sources logs → Holds limit (told source) (faults source) (reaches source) (old ++ added) log → AllHold told faults reaches limit (old ++ added) (sources ++ source ∷ []) (logs ++ log ∷ [])
+    AllHold-more [] [] source log earlier hold holds = (holds, tt)
+    AllHold-more [] (other ∷ logs) source log earlier hold holds = absurd hold
+    AllHold-more (other ∷ sources) [] source log earlier hold holds = absurd hold
+    AllHold-more (first ∷ sources) (other ∷ logs) source log earlier hold holds =
+        (Holds-more (told first) (faults first) (reaches first) other earlier.0 hold.0, AllHold-more sources logs source log earlier.1 hold.1 holds)
+
+pub AllHold-length : {S : Type 0} (told : S → Option (List ℕ)) (faults : S → ℕ) (reaches : S → ℕ → ℕ → Type 0) (limit : ℕ) (journal : List Entry) (sources : List S) (logs : List SessionLog) → AllHold told faults reaches limit journal sources logs → length logs ≡ length sources
+AllHold-length told faults reaches limit journal [] [] hold = refl
+AllHold-length told faults reaches limit journal [] (log ∷ logs) hold = absurd hold
+AllHold-length told faults reaches limit journal (source ∷ sources) [] hold = absurd hold
+AllHold-length told faults reaches limit journal (source ∷ sources) (log ∷ logs) hold = let rest = AllHold-length told faults reaches limit journal sources logs hold.1 in cc

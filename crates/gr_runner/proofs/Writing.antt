@@ -1,0 +1,90 @@
+-- A text that is written piece by piece.
+use Rattle.std.proofs.Common.{◌≡◌, ℕ, suc, ◌<◌, ◌-◌, ◌+◌, Option, Result, Ok, Err, List, [], ◌++◌, length, take, drop, get_or, refl, sym, ap, ◌∙◌, arith, append_assoc, append-nil, take-append-drop, drop-cons, length-drop}
+use Rattle.std.proofs.Math.Seq.{take-length}
+use Rattle.std.proofs.KnownBytes.{Appends-kept, Appends-nil, Appends-trans}
+use Rattle.std.specs.Io.KnownBytes.{Appends, Keeps}
+use Rattle.std.specs.List.{flat_map}
+use Rattle.std.specs.Result.{IsErr}
+use Rattle.gr_outside.specs.declared.failed.Failed.{Failed}
+use Rattle.gr_runner.specs.Written.{IsCutOff, IsWrittenWhole, Writes}
+
+-- of a text all but the rest was written, and no write failed
+pub record IsWriting (before now : Option (List ℕ)) (faults faults_now : ℕ) (text rest : List ℕ) : Type 0 where
+  pub piece : List ℕ
+  pub text_is : text ≡ piece ++ rest
+  pub taken : Appends before now piece
+  pub same : faults_now ≡ faults
+
+-- nothing was written yet
+pub begun : (before : Option (List ℕ)) (faults : ℕ) (text : List ℕ) → IsWriting before before faults faults text text
+begun before faults text = record { piece = []; text_is = refl; taken = Appends-nil before; same = refl }
+
+-- the next part is written whole
+pub wrote : (before now next : Option (List ℕ)) (faults faults_now faults_next : ℕ) (text part rest : List ℕ) → IsWriting before now faults faults_now text (part ++ rest) → IsWrittenWhole now next faults_now faults_next part → IsWriting before next faults faults_next text rest
+wrote before now next faults faults_now faults_next text part rest writing whole = record {
+  piece = writing.piece ++ part;
+  text_is = writing.text_is ∙ sym (append_assoc writing.piece part rest);
+  taken = Appends-trans before now next writing.piece part writing.taken whole.taken;
+  same = whole.same ∙ writing.same;
+}
+
+-- the next part is cut off
+pub cut : (before now next : Option (List ℕ)) (faults faults_now faults_next : ℕ) (text part rest : List ℕ) → IsWriting before now faults faults_now text (part ++ rest) → IsCutOff now next faults_now faults_next part → IsCutOff before next faults faults_next text
+cut before now next faults faults_now faults_next text part rest writing off = record {
+  piece = writing.piece ++ off.piece;
+  rest = off.rest ++ rest;
+  text_is = writing.text_is ∙ ap (λ other. writing.piece ++ (other ++ rest)) off.text_is ∙ ap (λ other. writing.piece ++ other) (append_assoc off.piece off.rest rest) ∙ sym (append_assoc writing.piece off.piece (off.rest ++ rest));
+  taken = Appends-trans before now next writing.piece off.piece writing.taken off.taken;
+  risen = omega (arith, writing.same, off.risen);
+}
+
+-- nothing is left to write
+pub written : (before now : Option (List ℕ)) (faults faults_now : ℕ) (text rest : List ℕ) → IsWriting before now faults faults_now text rest → rest ≡ [] → IsWrittenWhole before now faults faults_now text
+written before now faults faults_now text rest writing none =
+    let same : text ≡ writing.piece = writing.text_is ∙ ap (λ other. writing.piece ++ other) none ∙ append-nil writing.piece in
+    record { taken = rw same writing.taken; same = writing.same }
+
+-- what stands after the taken bytes, as a range
+pub range_from : (rest : List ℕ) (taken : ℕ) → take (length rest - taken) (drop taken rest) ≡ drop taken rest
+range_from rest taken = rw (← length-drop taken rest) (take-length (drop taken rest))
+
+-- a call that takes some of what is left
+pub took : (before now next : Option (List ℕ)) (faults faults_now faults_next : ℕ) (text rest : List ℕ) (taken : ℕ) → IsWriting before now faults faults_now text rest → Appends now next (take taken rest) → faults_next ≡ faults_now → IsWriting before next faults faults_next text (take (length rest - taken) (drop taken rest))
+took before now next faults faults_now faults_next text rest taken writing appends same =
+    let cut_there : IsWriting before now faults faults_now text (take taken rest ++ drop taken rest) = rw (take-append-drop taken rest) writing in
+    rw range_from (wrote before now next faults faults_now faults_next text (take taken rest) (drop taken rest) cut_there (record { taken = appends; same = same }))
+
+-- a call that fails
+pub failed : (before now next : Option (List ℕ)) (faults faults_now faults_next : ℕ) (text rest : List ℕ) → IsWriting before now faults faults_now text rest → Keeps now next → faults_now < faults_next → IsCutOff before next faults faults_next text
+failed before now next faults faults_now faults_next text rest writing keeps risen = record {
+  piece = writing.piece;
+  rest = rest;
+  text_is = writing.text_is;
+  taken = Appends-kept before now next writing.piece writing.taken keeps;
+  risen = omega (arith, writing.same, risen);
+}
+
+-- the parts from a place on begin with the part there
+pub parts_from : {X : Type 0} (text_of : X → List ℕ) (parts : List X) (place : ℕ) (part : X) → place < length parts → part ≡ get_or parts place part → flat_map text_of (drop place parts) ≡ text_of part ++ flat_map text_of (drop (place + 1) parts)
+parts_from text_of parts place part within is =
+    let further : suc place ≡ place + 1 = omega arith in
+    ap (flat_map text_of) (drop-cons parts place part within) ∙ ap (λ other. text_of other ++ flat_map text_of (drop (suc place) parts)) (sym is) ∙ ap (λ next. text_of part ++ flat_map text_of (drop next parts)) further
+
+-- where a call ended in an error, that is what was answered
+pub answered : (before after : Option (List ℕ)) (faults faults_after : ℕ) (text : List ℕ) (answer : Result (Unit {0}) Failed) → IsErr answer → IsCutOff before after faults faults_after text → Writes before after faults faults_after text answer
+answered before after faults faults_after text (Ok none) error off = cc
+answered before after faults faults_after text (Err failed) error off = off
+
+-- the part at a place is written whole
+pub part_wrote : {X : Type 0} (text_of : X → List ℕ) (before now next : Option (List ℕ)) (faults faults_now faults_next : ℕ) (parts : List X) (place : ℕ) (part : X) (text : List ℕ) → IsWriting before now faults faults_now (flat_map text_of parts) (flat_map text_of (drop place parts)) → place < length parts → part ≡ get_or parts place part → text ≡ text_of part → IsWrittenWhole now next faults_now faults_next text → IsWriting before next faults faults_next (flat_map text_of parts) (flat_map text_of (drop (place + 1) parts))
+part_wrote text_of before now next faults faults_now faults_next parts place part text writing within is same whole =
+    let there : IsWriting before now faults faults_now (flat_map text_of parts) (text_of part ++ flat_map text_of (drop (place + 1) parts)) = rw (← parts_from text_of parts place part within is) writing in
+    let of_part : IsWrittenWhole now next faults_now faults_next (text_of part) = rw (← same) whole in
+    wrote before now next faults faults_now faults_next (flat_map text_of parts) (text_of part) (flat_map text_of (drop (place + 1) parts)) there of_part
+
+-- the part at a place is cut off
+pub part_cut : {X : Type 0} (text_of : X → List ℕ) (before now next : Option (List ℕ)) (faults faults_now faults_next : ℕ) (parts : List X) (place : ℕ) (part : X) (text : List ℕ) → IsWriting before now faults faults_now (flat_map text_of parts) (flat_map text_of (drop place parts)) → place < length parts → part ≡ get_or parts place part → text ≡ text_of part → IsCutOff now next faults_now faults_next text → IsCutOff before next faults faults_next (flat_map text_of parts)
+part_cut text_of before now next faults faults_now faults_next parts place part text writing within is same off =
+    let there : IsWriting before now faults faults_now (flat_map text_of parts) (text_of part ++ flat_map text_of (drop (place + 1) parts)) = rw (← parts_from text_of parts place part within is) writing in
+    let of_part : IsCutOff now next faults_now faults_next (text_of part) = rw (← same) off in
+    cut before now next faults faults_now faults_next (flat_map text_of parts) (text_of part) (flat_map text_of (drop (place + 1) parts)) there of_part
