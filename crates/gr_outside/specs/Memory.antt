@@ -1,5 +1,5 @@
 -- Sources, sinks and files in memory: which calls fail, and what those to come can give.
-use Rattle.std.specs.Prelude.{ℕ, ◌≡◌, ◌+◌, ◌*◌, ◌-◌, ◌^◌, ◌≤◌, ◌==◌, min, Bool, if◌then◌else◌, Option, Some, None, List, [], ◌∷◌, length, zero, suc}
+use Rattle.std.specs.Prelude.{ℕ, ◌≡◌, ◌+◌, ◌*◌, ◌-◌, ◌^◌, ◌≤◌, ◌==◌, min, Bool, if◌then◌else◌, List, [], length, zero, suc}
 use Rattle.std.proofs.Common.{arith, sym, add-zero}
 use Rattle.std.specs.List.{list_any}
 

@@ -1,6 +1,6 @@
 // Files in memory, with the opens that are to fail.
-ghost use Rattle.std.specs.Prelude.{◌≡◌, Ok};
-ghost use Rattle.gr_outside.specs.NamedFiles.{filing_of};
+ghost use Rattle.std.specs.Prelude.{◌≡◌, Ok, option_copied};
+ghost use Rattle.gr_outside.specs.NamedFiles.{file_named, filing_of};
 
 use super::memory_source::is_failing;
 use super::{Calls, Files, MemorySource, NamedFile, OpenFault};
@@ -58,12 +58,7 @@ impl Files for MemoryFiles {
     fn open(&mut self, alloc: Global, name: &str) -> Result<MemorySource, OpenFault> {
         let fails = is_failing(self.failing.as_slice(), self.call);
         self.call = self.call.saturating_add(1);
-        match self
-            .files
-            .as_slice()
-            .iter()
-            .find(|file| file.name.as_slice() == name.as_bytes())
-        {
+        match named(self.files.as_slice(), name.as_bytes()) {
             Some(file) if !fails => file.source(alloc).map_err(|_| OpenFault::NoMemory),
             _ => {
                 self.faults += 1;
@@ -72,3 +67,13 @@ impl Files for MemoryFiles {
         }
     }
 }
+
+// The first file of this name.
+fn named<'a>(files: &'a [NamedFile], name: &[u8]) -> Option<&'a NamedFile>
+    ensures { option_copied result ≡ file_named files.now name.now }
+{
+    files.iter().find(|file| file.name.as_slice() == name)
+}
+
+#[cfg(test)]
+mod tests;

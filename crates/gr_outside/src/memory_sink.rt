@@ -73,3 +73,6 @@ impl Sink for MemorySink {
         Ok(taken)
     }
 }
+
+#[cfg(test)]
+mod tests;

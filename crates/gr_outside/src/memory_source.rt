@@ -1,5 +1,5 @@
 // A source in memory, with the calls that are to fail.
-ghost use Rattle.std.specs.Prelude.{◌≡◌, ◌<◌, ◌≤◌, min, length, take};
+ghost use Rattle.std.specs.Prelude.{◌≡◌, ◌<◌, ◌≤◌, min, drop, length, take};
 ghost use Rattle.gr_outside.specs.Memory.{is_failing, reading_from};
 
 use super::{Failed, Source};
@@ -67,12 +67,20 @@ impl Source for MemorySource {
                 faults: self.faults,
             });
         }
-        let given = give(&self.bytes.as_slice()[self.at..], self.largest, room);
+        let given = give(rest(self.bytes.as_slice(), self.at), self.largest, room);
         self.at += given;
         Ok(given)
     }
 
     ghost reaches_now = { reaches_at_once };
+}
+
+// The bytes from this place on.
+fn rest(bytes: &[u8], at: usize) -> &[u8]
+    requires { at ≤ length bytes.now }
+    ensures { result.now ≡ drop at bytes.now }
+{
+    &bytes[at..]
 }
 
 // Moves as many bytes as the room, the largest piece and what is left allow.
@@ -91,3 +99,6 @@ pub(crate) fn is_failing(failing: &[u64], call: u64) -> bool
 {
     failing.iter().any(|number| *number == call)
 }
+
+#[cfg(test)]
+mod tests;
