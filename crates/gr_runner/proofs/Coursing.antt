@@ -1,15 +1,16 @@
 -- How a run goes on by one session, and by one phase.
-use Rattle.std.proofs.Common.{◌≡◌, ℕ, suc, ◌+◌, ◌≤◌, ◌<◌, ◌⊎◌, Option, List, [], ◌∷◌, ◌++◌, length, map, inl, inr, refl, sym, ap, ◌∙◌, arith, add-zero, append-nil, append_assoc, length-append}
+use Rattle.std.proofs.Common.{◌≡◌, ℕ, suc, ◌+◌, ◌≤◌, ◌<◌, ◌⊎◌, Option, List, [], ◌∷◌, ◌++◌, length, inl, inr, refl, sym, ap, ◌∙◌, arith, add-zero, append-nil, append_assoc, length-append}
 use Rattle.std.proofs.lemmas.Grind.{flat_map-append}
 use Rattle.std.proofs.lemmas.List.{length_push, map-append}
 use Rattle.std.proofs.lemmas.List.Elements.{Contains-push_cases}
-use Rattle.std.specs.List.{AllByRecursion, Contains, flat_map}
+use Rattle.std.specs.List.{AllByRecursion, Contains}
 use Rattle.gr_model.specs.declared.entry.Entry.{Entry}
 use Rattle.gr_runner.specs.Course.{Course, IsAmong, RunsPhase}
-use Rattle.gr_runner.specs.History.{AllHold, History, IsBefore, label_of, labels_in, labels_of, sources_of}
+use Rattle.gr_runner.specs.History.{IsBefore, label_of, labels_in, labels_of, sources_of}
 use Rattle.gr_runner.specs.Served.{IsOfSession, Serves}
 use Rattle.gr_runner.specs.declared.report.SessionLog.{SessionLog}
-use Rattle.gr_runner.proofs.Growing.{AllHold-length, AllHold-more, Climbs-marks, IsBefore-more, IsBefore-opened, all_append, all_of, all_weaker, owners-more}
+use Rattle.gr_runner.proofs.Growing.{AllHold-length, AllHold-more, Climbs-marks, IsBefore-more, IsBefore-opened, owners-more}
+use Rattle.gr_runner.proofs.Lists.{all_append, all_of, all_weaker}
 
 -- ---- sources and their labels
 
@@ -100,7 +101,7 @@ module _ {S : Type 0} (told : S → Option (List ℕ)) (faults : S → ℕ) (rea
     sessions-next : (other : SessionLog) → Contains logs other ⊎ (log ≡ other) → IsAmong (length (logs ++ log ∷ [])) (length (phases ++ (sources ++ source ∷ []) ∷ [])) (length (old ++ added)) other
     sessions-next other (inl among) =
         IsAmong-more (length logs) (length (phases ++ sources ∷ [])) (length old) (length (logs ++ log ∷ [])) (length (phases ++ (sources ++ source ∷ []) ∷ [])) (length (old ++ added)) other
-            (omega (arith, length_push logs log)) (omega (arith, length_push phases sources, length_push phases (sources ++ source ∷ []))) (omega (arith, length-append old added)) (course.sessions other among)
+        (omega (arith, length_push logs log)) (omega (arith, length_push phases sources, length_push phases (sources ++ source ∷ []))) (omega (arith, length-append old added)) (course.sessions other among)
     sessions-next other (inr same) = rw (← same) (record {
       number = omega (arith, serves.number_is, number_is, length_push logs log);
       phase = omega (arith, serves.phase_is, phase_is, length_push phases (sources ++ source ∷ []));

@@ -8,43 +8,13 @@ use Rattle.gr_session.specs.Own.{is_own}
 use Rattle.gr_session.specs.declared.command.Next.{Next}
 use Rattle.gr_session.specs.declared.session.Done.{Done}
 use Rattle.gr_session.proofs.Owning.{IsStarved-more, Reply-more}
+use Rattle.gr_runner.proofs.Replying.{Climbs-raise}
+use Rattle.gr_runner.proofs.Lists.{all_append, all_of, all_weaker, at_or_added}
 use Rattle.gr_runner.specs.History.{AllHold, IsBefore, IsOwned}
 use Rattle.gr_runner.specs.Served.{IsOfSession}
-use Rattle.gr_runner.specs.Sessions.{AreAnswered, Climbs, Holds, Replies}
+use Rattle.gr_runner.specs.Sessions.{Climbs, Holds, Replies}
 use Rattle.gr_runner.specs.declared.report.End.{End}
 use Rattle.gr_runner.specs.declared.report.SessionLog.{SessionLog}
-
--- ---- lists
-
-pub all_weaker : {X : Type 0} (P Q : X → Type 0) (xs : List X) → ((x : X) → P x → Q x) → AllByRecursion P xs → AllByRecursion Q xs
-all_weaker P Q [] weaker all = tt
-all_weaker P Q (x ∷ xs) weaker all = (weaker x all.0, all_weaker P Q xs weaker all.1)
-
-pub all_append : {X : Type 0} (P : X → Type 0) (xs ys : List X) → AllByRecursion P xs → AllByRecursion P ys → AllByRecursion P (xs ++ ys)
-all_append P [] ys all more = more
-all_append P (x ∷ xs) ys all more = (all.0, all_append P xs ys all.1 more)
-
-pub all_split : {X : Type 0} (P : X → Type 0) (xs ys : List X) → AllByRecursion P (xs ++ ys) → AllByRecursion P xs × AllByRecursion P ys
-all_split P [] ys all = (tt, all)
-all_split P (x ∷ xs) ys all = let rest = all_split P xs ys all.1 in ((all.0, rest.0), rest.1)
-
-pub all_at : {X : Type 0} (P : X → Type 0) (xs : List X) (x : X) → AllByRecursion P xs → Contains xs x → P x
-all_at P xs x all among = All-contains P xs x (All-from_recursion P xs all) among
-
-pub all_of : {X : Type 0} (P : X → Type 0) (xs : List X) → ((x : X) → Contains xs x → P x) → AllByRecursion P xs
-all_of P xs each = recursion_from_All P xs (λ place other within. each _ (Contains-get_or xs place other within))
-
-all_there : {X : Type 0} (P : X → Type 0) (xs : List X) (place : ℕ) (x : X) → AllByRecursion P xs → slice_get xs place ≡ Some x → P x
-all_there P [] place x all is = cc
-all_there P (first ∷ xs) zero x all is = let same : first ≡ x = cc in rw (← same) all.0
-all_there P (first ∷ xs) (suc place) x all is = all_there P xs place x all.1 is
-
--- what stands at a place of a list and more stands in the list there, or is of what was added
-pub at_or_added : {X : Type 0} (P : X → Type 0) (xs added : List X) (place : ℕ) (x : X) → AllByRecursion P added → slice_get (xs ++ added) place ≡ Some x → ((place < length xs) × (slice_get xs place ≡ Some x)) ⊎ P x
-at_or_added P [] added place x all is = inr (all_there P added place x all is)
-at_or_added P (first ∷ xs) added zero x all is = inl (omega arith, is)
-at_or_added P (first ∷ xs) added (suc place) x all is =
-    elim (at_or_added P xs added place x all is) [ inl there ↦ inl (omega arith, there.1) | inr new ↦ inr new ]
 
 -- ---- the entries of another session
 
@@ -67,10 +37,6 @@ Replies-more journal more session command (item ∷ items) (reply ∷ done) end 
 
 -- ---- places that climb
 
-Climbs-longer : (low top further : ℕ) (done : List Done) → top ≤ further → Climbs low done top → Climbs low done further
-Climbs-longer low top further [] longer climbs = omega (arith, climbs)
-Climbs-longer low top further (reply ∷ done) longer climbs = (climbs.0, climbs.1, Climbs-longer reply.mark top further done longer climbs.2)
-
 Climbs-top : (low top : ℕ) (done : List Done) → Climbs low done top → low ≤ top
 Climbs-top low top [] climbs = climbs
 Climbs-top low top (reply ∷ done) climbs = let rest = Climbs-top reply.mark top done climbs.2 in omega (arith, climbs.0, climbs.1, rest)
@@ -84,9 +50,9 @@ Climbs-marks low top (reply ∷ done) climbs = (Climbs-top reply.mark top done c
 pub owners-more : (logs : List SessionLog) (log : SessionLog) (number : ℕ) (old added : List Entry) → log.number.0 ≡ number → AllByRecursion (IsOwned logs) old → AllByRecursion (IsOfSession number (length log.done)) added → AllByRecursion (IsOwned (logs ++ log ∷ [])) (old ++ added)
 owners-more logs log number old added is owners owned =
     let earlier = all_weaker (IsOwned logs) (IsOwned (logs ++ log ∷ [])) old
-        (λ entry of_log. record { log = of_log.log; among = Contains-append_left logs (log ∷ []) of_log.log of_log.among; session = of_log.session; command = of_log.command }) owners in
+    (λ entry of_log. record { log = of_log.log; among = Contains-append_left logs (log ∷ []) of_log.log of_log.among; session = of_log.session; command = of_log.command }) owners in
     let later = all_weaker (IsOfSession number (length log.done)) (IsOwned (logs ++ log ∷ [])) added
-        (λ entry of_session. record { log = log; among = Contains-push logs log; session = of_session.session ∙ sym is; command = of_session.command }) owned in
+    (λ entry of_session. record { log = log; among = Contains-push logs log; session = of_session.session ∙ sym is; command = of_session.command }) owned in
     all_append (IsOwned (logs ++ log ∷ [])) old added earlier later
 
 -- ---- phases
@@ -113,7 +79,7 @@ module _ (limit : ℕ) (old added : List Entry) (number count : ℕ) (owned : Al
     items = holds.items;
     read = holds.read;
     replies = Replies-more old added log.number.0 0 holds.items log.done log.end (λ command. others log.number.0 command number count added earlier owned) holds.replies;
-    climbs = Climbs-longer log.opened (length old) (length (old ++ added)) log.done (omega (arith, length-append old added)) holds.climbs;
+    climbs = Climbs-raise log.opened log.done (length old) (length (old ++ added)) (omega (arith, length-append old added)) holds.climbs;
   }
 
   module _ {S : Type 0} (told : S → Option (List ℕ)) (faults : S → ℕ) (reaches : S → ℕ → ℕ → Type 0) where

@@ -1,6 +1,7 @@
 mod Coursing
 mod Ending
 mod Growing
+mod Lists
 mod Opened
 mod Progressing
 mod Reading

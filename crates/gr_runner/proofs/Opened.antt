@@ -15,14 +15,13 @@ use Rattle.gr_runner.specs.declared.status.Status.{Status}
 use Rattle.gr_runner.specs.declared.status.Status.TheVariants.{Ok, Usage, Open, Read as ReadFailed, Write, NoMemory as OutOfMemory, SourceTooLong as TooLong}
 
 module _ (limit : ℕ) (bytes left : Option (List ℕ)) (faults : ℕ) (told reached : ℕ → ℕ → Type 0) (opened : IsOpened bytes left faults told reached) where
-
   -- what was read of an opened file was read of what its name tells
   ReadTo-opened : (end : End) (items : List Next) → ReadTo limit left faults reached end items → ReadTo limit bytes 0 told end items
   ReadTo-opened Finished items read = record {
     bytes = read.bytes;
     source = subst (λ known. IsTold known read.bytes) opened.whole read.source;
     within = read.within;
-    items_are = read.items_are
+    items_are = read.items_are;
   }
   ReadTo-opened (Read count) items read = record {
     given = read.given;
@@ -31,19 +30,19 @@ module _ (limit : ℕ) (bytes left : Option (List ℕ)) (faults : ℕ) (told rea
     within = read.within;
     risen = subst (λ (began : ℕ). began < count) opened.fresh read.risen;
     reached = opened.within _ _ read.reached;
-    items_are = read.items_are
+    items_are = read.items_are;
   }
   ReadTo-opened (SourceTooLong given) items read = record {
     bytes = read.bytes;
     source = subst (λ known. IsTold known read.bytes) opened.whole read.source;
     above = read.above;
     within = read.within;
-    items_are = read.items_are
+    items_are = read.items_are;
   }
   ReadTo-opened NoMemory items read = record {
     bytes = read.bytes;
     source = subst (λ known. IsTold known read.bytes) opened.whole read.source;
-    items_are = read.items_are
+    items_are = read.items_are;
   }
 
   -- so a session's log holds of the name
@@ -52,11 +51,10 @@ module _ (limit : ℕ) (bytes left : Option (List ℕ)) (faults : ℕ) (told rea
     items = holds.items;
     read = ReadTo-opened log.end holds.items holds.read;
     replies = holds.replies;
-    climbs = holds.climbs
+    climbs = holds.climbs;
   }
 
 module _ {S : Type 0} (limit : ℕ) (left : S → Option (List ℕ)) (faults : S → ℕ) (reached : S → ℕ → ℕ → Type 0) (bytes : List ℕ → Option (List ℕ)) (told : List ℕ → ℕ → ℕ → Type 0) (file : S) (name : List ℕ) (opened : IsOpened (bytes name) (left file) (faults file) (told name) (reached file)) where
-
   AllHold-none : (journal : List Entry) (logs : List SessionLog) → AllHold left faults reached limit journal [] logs → AllHold bytes (λ _. 0) told limit journal [] logs
   AllHold-none journal [] holds = tt
   AllHold-none journal (log ∷ logs) holds = absurd holds
@@ -65,7 +63,7 @@ module _ {S : Type 0} (limit : ℕ) (left : S → Option (List ℕ)) (faults : S
   AllHold-opened journal [] holds = absurd holds
   AllHold-opened journal (log ∷ logs) holds = (
     Holds-opened limit (bytes name) (left file) (faults file) (told name) (reached file) opened journal log holds.0,
-    AllHold-none journal logs holds.1
+    AllHold-none journal logs holds.1,
   )
 
   History-opened : (started : ℕ) (journal : List Entry) (logs : List SessionLog) → History left faults reached limit (take started ((file ∷ []) ∷ [])) journal logs → History bytes (λ _. 0) told limit (take started ((name ∷ []) ∷ [])) journal logs
@@ -74,21 +72,21 @@ module _ {S : Type 0} (limit : ℕ) (left : S → Option (List ℕ)) (faults : S
     labels = history.labels;
     owners = history.owners;
     in_phases = history.in_phases;
-    sessions = AllHold-none journal logs history.sessions
+    sessions = AllHold-none journal logs history.sessions;
   }
   History-opened (suc zero) journal logs history = record {
     accepted = history.accepted;
     labels = history.labels;
     owners = history.owners;
     in_phases = history.in_phases;
-    sessions = AllHold-opened journal logs history.sessions
+    sessions = AllHold-opened journal logs history.sessions;
   }
   History-opened (suc (suc more)) journal logs history = record {
     accepted = history.accepted;
     labels = history.labels;
     owners = history.owners;
     in_phases = history.in_phases;
-    sessions = AllHold-opened journal logs history.sessions
+    sessions = AllHold-opened journal logs history.sessions;
   }
 
   IsCause-opened : (started : ℕ) (logs : List SessionLog) (write_failed : Type 0) (status : Status) → IsCause ((file ∷ []) ∷ []) started logs write_failed status → IsCause ((name ∷ []) ∷ []) started logs write_failed status
@@ -108,5 +106,5 @@ module _ {S : Type 0} (limit : ℕ) (left : S → Option (List ℕ)) (faults : S
     history = History-opened run.started report.journal report.sessions run.history;
     last = run.last;
     cause = IsCause-opened run.started report.sessions write_failed report.status run.cause;
-    written = run.written
+    written = run.written;
   }

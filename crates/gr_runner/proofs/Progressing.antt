@@ -13,19 +13,12 @@ use Rattle.gr_session.specs.Reply.{IsStarved, Reply}
 use Rattle.gr_session.specs.Step.{Standing, Steps}
 use Rattle.gr_session.specs.declared.command.Next.{Next}
 use Rattle.gr_session.specs.declared.session.Done.{Done}
+use Rattle.gr_runner.proofs.Lists.{all_append, all_weaker}
 use Rattle.gr_runner.proofs.Replying.{all_later, Climbs-push, Climbs-raise, Replies-more, Replies-push, Replies-starve, Replies-stop}
 use Rattle.gr_runner.specs.Progress.{Advances, RunsOne, Grows, IsEarlier, IsReady, IsSoFar, Stops}
 use Rattle.gr_runner.specs.Served.{IsOfSession}
 use Rattle.gr_runner.specs.Sessions.{Climbs, Replies}
 use Rattle.gr_runner.specs.declared.report.End.TheVariants.{Finished}
-
-pub all_weaker : {X : Type 0} (P Q : X → Type 0) (xs : List X) → ((x : X) → P x → Q x) → AllByRecursion P xs → AllByRecursion Q xs
-all_weaker P Q [] weaker all = tt
-all_weaker P Q (x ∷ xs) weaker all = (weaker x all.0, all_weaker P Q xs weaker all.1)
-
-all_append : {X : Type 0} (P : X → Type 0) (xs ys : List X) → AllByRecursion P xs → AllByRecursion P ys → AllByRecursion P (xs ++ ys)
-all_append P [] ys first second = second
-all_append P (x ∷ xs) ys first second = (first.0, all_append P xs ys first.1 second)
 
 later_owned : (number commands : ℕ) (entry : Entry) → IsOfSession number commands entry → IsOfSession number (commands + 1) entry
 later_owned number commands entry owned = let below = owned.command in record { session = owned.session; command = omega arith }

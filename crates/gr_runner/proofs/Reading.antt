@@ -11,7 +11,8 @@ use Rattle.gr_session.specs.Step.{Standing, opened_at}
 use Rattle.gr_session.specs.Stream.{Stream, left}
 use Rattle.gr_session.specs.declared.command.Next.{Next}
 use Rattle.gr_session.specs.declared.session.Done.{Done}
-use Rattle.gr_runner.proofs.Progressing.{advances_none, advances_on, all_weaker, stops_here, stops_on}
+use Rattle.gr_runner.proofs.Progressing.{advances_none, advances_on, stops_here, stops_on}
+use Rattle.gr_runner.proofs.Lists.{all_weaker}
 use Rattle.gr_runner.proofs.Replying.{Climbs-raise, Replies-end}
 use Rattle.gr_runner.specs.Progress.{Advances, IsEarlier, IsReady, IsSoFar, IsStopped, RunsAll, RunsSome, RunsSource, Stops}
 use Rattle.gr_runner.specs.Served.{Serves}

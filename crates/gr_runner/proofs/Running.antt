@@ -14,10 +14,10 @@ use Rattle.gr_runner.specs.Written.{IsCutOff, IsWrittenWhole}
 use Rattle.gr_runner.specs.declared.report.End.TheVariants.{Finished}
 use Rattle.gr_runner.specs.declared.report.SessionLog.{SessionLog}
 use Rattle.gr_runner.specs.declared.status.Status.{Status}
-use Rattle.gr_runner.specs.declared.status.Status.TheVariants.{Ok, Write, NoMemory}
+use Rattle.gr_runner.specs.declared.status.Status.TheVariants.{Ok, Write}
 use Rattle.gr_runner.proofs.Coursing.{Course-none}
 use Rattle.gr_runner.proofs.Ending.{all_finished, cause_of_end, finished_where_ok, first_unfinished-append, written_of_end}
-use Rattle.gr_runner.proofs.Growing.{all_at, all_of, all_split, all_weaker}
+use Rattle.gr_runner.proofs.Lists.{all_at, all_of, all_split, all_weaker}
 use Rattle.gr_runner.proofs.Serving.{AreOfFirst}
 
 texts_of-append : (logs more : List SessionLog) → texts_of (logs ++ more) ≡ texts_of logs ++ texts_of more
@@ -109,9 +109,6 @@ module _ {S : Type 0} (told : S → Option (List ℕ)) (faults : S → ℕ) (rea
 
     among_all : phase + 1 ≤ length phases
     among_all = omega (arith, ran.count, ap length phases_are, length-append (seen ++ sources ∷ []) later, length_push seen sources)
-
-    pub next_fits : phase + 1 < 2 ^ 32
-    next_fits = omega (arith, among_all, ran.few)
 
     taken_phases : take (phase + 1) phases ≡ seen ++ sources ∷ []
     taken_phases = ap (take (phase + 1)) phases_are ∙ take_at (seen ++ sources ∷ []) later (phase + 1) (omega (arith, length_push seen sources, ran.count))
@@ -211,14 +208,3 @@ module _ {S : Type 0} (told : S → Option (List ℕ)) (faults : S → ℕ) (rea
         cause = record { all = whole; finished = ran.finished; written = λ risen. omega (arith, risen, ran.same) };
         written = ran.taken;
       }
-
-  -- no room was found for the logs
-  pub not_begun : (phases : List (List S)) (before : Option (List ℕ)) (writes : ℕ) → Run told faults reaches limit phases (record { status = NoMemory; journal = []; sessions = [] }) before before (writes < writes)
-  not_begun phases before writes = record {
-    started = 0;
-    among = omega arith;
-    history = (Course-none told faults reaches limit).history;
-    last = λ log among not. absurd (omega (arith, among.1));
-    cause = record { first = inr refl; written = λ risen. omega (arith, risen) };
-    written = Appends-nil before;
-  }

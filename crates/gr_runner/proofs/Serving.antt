@@ -1,5 +1,5 @@
 -- The sources of one phase, served one after the other.
-use Rattle.std.proofs.Common.{◌≡◌, ℕ, ◌+◌, ◌-◌, ◌^◌, ◌≤◌, ◌<◌, Option, List, [], ◌∷◌, ◌++◌, length, refl, sym, ap, ◌∙◌, arith, append-nil, append_assoc, length-append}
+use Rattle.std.proofs.Common.{◌≡◌, ℕ, ◌+◌, ◌-◌, ◌^◌, ◌≤◌, ◌<◌, Option, List, [], ◌∷◌, ◌++◌, length, sym, ap, ◌∙◌, arith, append_assoc}
 use Rattle.std.proofs.lemmas.List.{length_push}
 use Rattle.std.specs.List.{AllByRecursion}
 use Rattle.gr_model.specs.declared.entry.Entry.{Entry}
@@ -7,7 +7,7 @@ use Rattle.gr_runner.specs.Course.{RunsPhase}
 use Rattle.gr_runner.specs.Served.{IsOfSession, Serves}
 use Rattle.gr_runner.specs.declared.report.SessionLog.{SessionLog}
 use Rattle.gr_runner.proofs.Coursing.{RunsPhase-begun, RunsPhase-next}
-use Rattle.gr_runner.proofs.Growing.{all_append, all_weaker}
+use Rattle.gr_runner.proofs.Lists.{all_append, all_weaker}
 
 -- each entry is of one of the first sessions
 abbrev pub AreOfFirst : ℕ → List Entry → Type 0

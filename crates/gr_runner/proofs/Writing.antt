@@ -1,6 +1,6 @@
 -- A text that is written piece by piece.
-use Rattle.std.proofs.Common.{◌≡◌, ℕ, suc, ◌<◌, ◌-◌, ◌+◌, Option, Result, Ok, Err, List, [], ◌++◌, length, take, drop, get_or, refl, sym, ap, ◌∙◌, arith, append_assoc, append-nil, take-append-drop, drop-cons, length-drop}
-use Rattle.std.proofs.Math.Seq.{take-length}
+use Rattle.std.proofs.Common.{◌≡◌, ℕ, ◌<◌, ◌-◌, ◌+◌, Option, Result, Ok, Err, List, [], ◌++◌, length, take, drop, get_or, refl, sym, ap, ◌∙◌, arith, append_assoc, append-nil, take-append-drop}
+use Rattle.std.proofs.lemmas.List.{drop_more, take_rest}
 use Rattle.std.proofs.KnownBytes.{Appends-kept, Appends-nil, Appends-trans}
 use Rattle.std.specs.Io.KnownBytes.{Appends, Keeps}
 use Rattle.std.specs.List.{flat_map}
@@ -44,15 +44,11 @@ written before now faults faults_now text rest writing none =
     let same : text ≡ writing.piece = writing.text_is ∙ ap (λ other. writing.piece ++ other) none ∙ append-nil writing.piece in
     record { taken = rw same writing.taken; same = writing.same }
 
--- what stands after the taken bytes, as a range
-pub range_from : (rest : List ℕ) (taken : ℕ) → take (length rest - taken) (drop taken rest) ≡ drop taken rest
-range_from rest taken = rw (← length-drop taken rest) (take-length (drop taken rest))
-
 -- a call that takes some of what is left
 pub took : (before now next : Option (List ℕ)) (faults faults_now faults_next : ℕ) (text rest : List ℕ) (taken : ℕ) → IsWriting before now faults faults_now text rest → Appends now next (take taken rest) → faults_next ≡ faults_now → IsWriting before next faults faults_next text (take (length rest - taken) (drop taken rest))
 took before now next faults faults_now faults_next text rest taken writing appends same =
     let cut_there : IsWriting before now faults faults_now text (take taken rest ++ drop taken rest) = rw (take-append-drop taken rest) writing in
-    rw range_from (wrote before now next faults faults_now faults_next text (take taken rest) (drop taken rest) cut_there (record { taken = appends; same = same }))
+    rw (take_rest rest taken) (wrote before now next faults faults_now faults_next text (take taken rest) (drop taken rest) cut_there (record { taken = appends; same = same }))
 
 -- a call that fails
 pub failed : (before now next : Option (List ℕ)) (faults faults_now faults_next : ℕ) (text rest : List ℕ) → IsWriting before now faults faults_now text rest → Keeps now next → faults_now < faults_next → IsCutOff before next faults faults_next text
@@ -67,8 +63,7 @@ failed before now next faults faults_now faults_next text rest writing keeps ris
 -- the parts from a place on begin with the part there
 pub parts_from : {X : Type 0} (text_of : X → List ℕ) (parts : List X) (place : ℕ) (part : X) → place < length parts → part ≡ get_or parts place part → flat_map text_of (drop place parts) ≡ text_of part ++ flat_map text_of (drop (place + 1) parts)
 parts_from text_of parts place part within is =
-    let further : suc place ≡ place + 1 = omega arith in
-    ap (flat_map text_of) (drop-cons parts place part within) ∙ ap (λ other. text_of other ++ flat_map text_of (drop (suc place) parts)) (sym is) ∙ ap (λ next. text_of part ++ flat_map text_of (drop next parts)) further
+    ap (flat_map text_of) (drop_more parts place part within) ∙ ap (λ other. text_of other ++ flat_map text_of (drop (place + 1) parts)) (sym is)
 
 -- where a call ended in an error, that is what was answered
 pub answered : (before after : Option (List ℕ)) (faults faults_after : ℕ) (text : List ℕ) (answer : Result (Unit {0}) Failed) → IsErr answer → IsCutOff before after faults faults_after text → Writes before after faults faults_after text answer

@@ -8,6 +8,7 @@ use std::alloc::Global;
 use std::test::Fail;
 
 // Which calls of the outside fail, and how much a read gives at most.
+#[derive(Drop)]
 struct Outside {
     opens: &'static [u64],
     reads: &'static [u64],
@@ -21,7 +22,12 @@ fn calls(alloc: Global, numbers: &[u64]) -> Result<Calls, Fail> {
 }
 
 // The status of a run over the one file `a.grn`, and what it wrote.
-fn ran(alloc: Global, words: &[&str], text: &str, outside: &Outside) -> Result<(Status, String), Fail> {
+fn ran(
+    alloc: Global,
+    words: &[&str],
+    text: &str,
+    outside: &Outside,
+) -> Result<(Status, String), Fail> {
     let mut files = Vec::new(alloc);
     files.push(NamedFile {
         name: Bytes::from_slice(alloc, b"a.grn")?,
@@ -55,8 +61,14 @@ fn each_command_has_its_reply_however_its_bytes_come(rt: HostRuntime) -> Result<
             "table_create T TABLE_HASH_KEY ShortText\nfoo\n\n \ntable_create _x TABLE_HASH_KEY ShortText\n",
             "[[0],true]\n[[4,\"UnknownCommand foo\"],false]\n[[9,\"BadName _x\"],false]\n",
         ),
-        ("table_create a\"b\\c TABLE_HASH_KEY ShortText\r\n", "[[3,\"BadLine\"],false]\n"),
-        ("table_create a\"b\\c TABLE_HASH_KEY ShortText\n", "[[9,\"BadName a\\\"b\\\\c\"],false]\n"),
+        (
+            "table_create a\"b\\c TABLE_HASH_KEY ShortText\r\n",
+            "[[3,\"BadLine\"],false]\n",
+        ),
+        (
+            "table_create a\"b\\c TABLE_HASH_KEY ShortText\n",
+            "[[9,\"BadName a\\\"b\\\\c\"],false]\n",
+        ),
     ] {
         for largest in [1, 3, 100_000] {
             let outside = Outside {
@@ -78,7 +90,14 @@ fn a_failing_outside_ends_the_run_with_its_status(rt: HostRuntime) -> Result<(),
     let alloc = rt.alloc();
     let text = "table_create T TABLE_HASH_KEY ShortText\n";
     let reply = "[[0],true]\n";
-    let cases: [(&[&str], &'static [u64], &'static [u64], &'static [u64], Status, &str); 9] = [
+    let cases: [(
+        &[&str],
+        &'static [u64],
+        &'static [u64],
+        &'static [u64],
+        Status,
+        &str,
+    ); 9] = [
         (&[], &[], &[], &[], Status::Usage, ""),
         (&["-a.grn"], &[], &[], &[], Status::Usage, ""),
         (&["a.grn", "a.grn"], &[], &[], &[], Status::Usage, ""),
@@ -119,8 +138,14 @@ fn a_source_above_the_limit_is_told_with_its_length(rt: HostRuntime) -> Result<(
     let mut sink = MemorySink::new(alloc, calls(alloc, &[])?, 100)?;
     let report = run_serial(alloc, limits, phases, &mut sink);
     assert_eq!(rt; report.status, Status::SourceTooLong);
-    assert_eq!(rt; sink.taken(), b"[[4,\"UnknownCommand #\"],false]\n".as_slice());
+    assert_eq!(rt;
+        sink.taken(),
+        b"[[4,\"UnknownCommand #\"],false]\n".as_slice()
+    );
     assert_eq!(rt; report.sessions.as_slice().len(), 1);
-    assert_eq!(rt; report.sessions.as_slice()[0].end, End::SourceTooLong { bytes: 11 });
+    assert_eq!(rt;
+        report.sessions.as_slice()[0].end,
+        End::SourceTooLong { bytes: 11 }
+    );
     Ok(())
 }

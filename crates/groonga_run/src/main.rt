@@ -3,9 +3,8 @@
 
 use gr_outside::{RealFiles, RealSink};
 use gr_runner::main_call;
-use std::env;
-use std::io;
 use std::process::ExitCode;
+use std::{env, io};
 
 fn main(rt: HostRuntime) -> io::Result<ExitCode> {
     let words: Vec<String> = env::args(&rt)?.skip(1).collect(rt.alloc())?;

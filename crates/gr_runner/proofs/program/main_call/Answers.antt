@@ -9,5 +9,5 @@ returns-in-Ok-clause-run g c =
     let told = g.F.Files.pairs_of c.args.files.now in
     rw named (inr (record {
       opened = c.in-Ok.ensures.faults;
-      run = Run-opened _ g.F.File.Source.left g.F.File.Source.faults g.F.File.Source.reaches bytes told c.in-Ok.file c.in-Some.name.now c.in-Ok.ensures.opened _ _ _ _ c.run_file.ensures
+      run = Run-opened _ g.F.File.Source.left g.F.File.Source.faults g.F.File.Source.reaches bytes told c.in-Ok.file c.in-Some.name.now c.in-Ok.ensures.opened _ _ _ _ c.run_file.ensures;
     }))

@@ -12,4 +12,4 @@ run_session-log-requires-clause-first g c = below_next _ _ _ (c.len.ensures ∙ 
 pub loop-source-preserved : goal.loop-source-preserved
 loop-source-preserved g c =
     served _ _ _ _ _ _ _ _ _ _ _ _ _ _ _ _ _ _ _ _ _ c.in-Some.ensures.steps.0 c.in-Ok.ensures.items (ap (λ (count : ℕ). count + 1) (c.len.ensures ∙ c.loop-source.logs.ok.0)) c.in-Ok.ensures.capacity
-        c.loop-source.invariant c.run_session-log.ensures
+    c.loop-source.invariant c.run_session-log.ensures
