@@ -1,0 +1,3 @@
+pub mod LastComma
+pub mod Members
+pub mod Taken
