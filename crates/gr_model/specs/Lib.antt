@@ -1,5 +1,4 @@
-pub mod Db
-pub mod Schema
-pub mod Entry
-pub mod State
 pub mod Accepted
+pub mod Db
+pub mod Entry
+pub mod Schema

@@ -1,5 +1,5 @@
 // Entries of the journal.
-use gr_base::{Bytes, SessionNo};
+use gr_base::{Bytes, SessionNo, TableNo};
 
 /// The table that a command asks for, in the words that it gives; an empty text is not given.
 #[derive(Drop)]
@@ -19,6 +19,13 @@ pub struct TableWish {
 pub enum Change {
     /// Makes a table.
     CreateTable(TableWish),
+    /// Puts a record of a key into a table.
+    Put {
+        /// The table.
+        table: TableNo,
+        /// The record's key.
+        key: Bytes,
+    },
 }
 
 /// One entry of the journal: who asked for it, and what it does.

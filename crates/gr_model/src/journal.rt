@@ -1,5 +1,5 @@
 // The journal, which contracts see as the list of its entries.
-ghost use Rattle.std.specs.Prelude.{◌≡◌, ◌==◌, ◌++◌, ◌∷◌, [], OnOk, OnErr, length, slice_get};
+ghost use Rattle.std.specs.Prelude.{◌≡◌, ◌==◌, ◌++◌, ◌∷◌, [], IfOk, length, map, slice_get};
 ghost use Rattle.std.specs.Option.{option_copied};
 ghost use Rattle.std.specs.Arc.{arc_value};
 
@@ -56,11 +56,23 @@ impl Journal {
         Some(&**self.entries.get(place as usize)?)
     }
 
-    /// One entry more.
-    pub fn push(&mut self, entry: Arc<Entry>) -> Result<(), NoMemory>
-        ensures ok { OnOk result (self.new ≡ self.old ++ arc_value entry ∷ []) }
-        ensures err { OnErr result (self.new ≡ self.old) }
+    /// The journal with one entry more, which shares the entries before it.
+    pub fn pushed(&self, alloc: Global, entry: Arc<Entry>) -> Result<Journal, NoMemory>
+        ensures { IfOk result (λ journal. journal ≡ self.now ++ arc_value entry ∷ []) }
     {
-        Ok(self.entries.push(entry)?)
+        let mut entries = shared_entries(alloc, &self.entries)?;
+        entries.push(entry)?;
+        Ok(Journal { entries })
     }
+}
+
+// The same entries, each with one more owner, and room for another.
+fn shared_entries(alloc: Global, entries: &[Arc<Entry>]) -> Result<Vec<Arc<Entry>>, NoMemory>
+    ensures { IfOk result (λ copies. map (λ entry. arc_value entry) copies.items ≡ map (λ entry. arc_value entry) entries.now) }
+{
+    let mut copies = Vec::with_capacity(alloc, entries.len())?;
+    for entry in entries {
+        copies.push(Arc::try_clone(entry)?)?;
+    }
+    Ok(copies)
 }

@@ -1,13 +1,12 @@
-// The journal's entries, what each does, and the state that they make.
+// The journal's entries, and what each does.
 #![tactic(auto)]
 
 mod entry;
 mod journal;
 mod schema;
-mod state;
 #[cfg(test)]
 mod tests;
 
 pub use entry::{Change, Entry, TableWish};
 pub use journal::Journal;
-pub use state::{ApplyFault, State};
+pub use schema::is_reserved;

@@ -26,8 +26,8 @@ const RESERVED_NAMES: [&str; 19] = [
     "TokenBigram",
 ];
 
-// Whether a name is that of a type or a tokenizer.
-pub(crate) fn is_reserved(name: &[u8]) -> bool
+/// Whether a name is that of a type or a tokenizer, which no table can have.
+pub fn is_reserved(name: &[u8]) -> bool
     ensures { result ≡ list_any (is_same_text name.now) reserved_names }
 {
     is_one_of(name, &RESERVED_NAMES)

@@ -1,3 +1,4 @@
+mod Completing
 mod Coursing
 mod Ending
 mod Growing

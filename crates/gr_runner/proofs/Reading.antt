@@ -5,6 +5,7 @@ use Rattle.std.proofs.KnownBytes.{Consumes-nil, Consumes-trans}
 use Rattle.std.specs.Io.KnownBytes.{Consumes, IsAtEnd}
 use Rattle.std.specs.List.{AllByRecursion}
 use Rattle.gr_base.specs.declared.numbers.SessionNo.{SessionNo}
+use Rattle.gr_base.specs.declared.numbers.Limits.{Limits}
 use Rattle.gr_model.specs.declared.entry.Entry.{Entry}
 use Rattle.gr_session.specs.Commands.{commands}
 use Rattle.gr_session.specs.Step.{Standing, opened_at}
@@ -21,22 +22,23 @@ use Rattle.gr_runner.specs.declared.report.End.{End}
 use Rattle.gr_runner.specs.declared.report.End.TheVariants.{Finished, Read, SourceTooLong, NoMemory as Starved}
 
 -- a session that has just opened, of which no entry stands
-pub record IsOpened (start : Standing) (journal : List Entry) : Type 0 where
-  pub opened : start ≡ opened_at start.session (length journal)
+pub record IsOpened (limits : Limits) (start : Standing) (journal : List Entry) : Type 0 where
+  pub opened : start ≡ opened_at limits start.session (length journal)
   pub first : AllByRecursion (λ entry. entry.session.0 < start.session) journal
 
-pub ready_opened : (start : Standing) (journal : List Entry) (dones : List Done) → dones ≡ [] → IsOpened start journal → IsReady start journal dones
-ready_opened start journal dones none at =
+pub ready_opened : (limits : Limits) (start : Standing) (journal : List Entry) (dones : List Done) → dones ≡ [] → IsOpened limits start journal → IsReady start journal dones
+ready_opened limits start journal dones none at =
     let mark = ap (λ standing. standing.mark) at.opened in
     record {
       running = ap (λ standing. standing.ended) at.opened;
+      idle = ap (λ standing. standing.going) at.opened;
       behind = omega arith;
       counted = rw none (ap (λ standing. standing.command) at.opened);
       earlier = all_weaker (λ entry. entry.session.0 < start.session) (IsEarlier start.session (length dones)) journal (λ entry below. inl below) at.first;
     }
 
-so_far_opened : (start : Standing) (journal : List Entry) → IsOpened start journal → IsSoFar journal journal start [] []
-so_far_opened start journal at =
+so_far_opened : (limits : Limits) (start : Standing) (journal : List Entry) → IsOpened limits start journal → IsSoFar journal journal start [] []
+so_far_opened limits start journal at =
     let mark = ap (λ standing. standing.mark) at.opened in
     record {
       grown = record { added = []; grows = sym (append-nil journal); owned = tt; accepted = λ accepted. accepted };
@@ -57,23 +59,24 @@ told_at_end (Some told) None given consumed at_end = absurd consumed
 told_at_end (Some told) (Some now) given consumed at_end = consumed ∙ ap (λ rest. given ++ rest) at_end ∙ append-nil given
 
 -- the bytes given so far are within the limit, the items that stand whole in them were run, and the reader has the rest
-pub record IsReading (limit : ℕ) (told now : Option (List ℕ)) (faults faults_now : ℕ) (reaches reaches_now : ℕ → ℕ → Type 0) (total : ℕ) (reader : Stream) (start standing : Standing) (old new : List Entry) (dones : List Done) : Type 0 where
+pub record IsReading (limits : Limits) (told now : Option (List ℕ)) (faults faults_now : ℕ) (reaches reaches_now : ℕ → ℕ → Type 0) (total : ℕ) (reader : Stream) (start standing : Standing) (old new : List Entry) (dones : List Done) : Type 0 where
   pub given : List ℕ
   pub items : List Next
   pub consumed : Consumes told now given
   pub same_faults : faults_now ≡ faults
   pub reached : (bytes count : ℕ) → reaches_now bytes count → reaches (length given + bytes) count
   pub total_is : total ≡ length given
-  pub within : total ≤ limit
+  pub within : total ≤ limits.source
   pub going : reader.ended ≡ false
   pub whole : (bytes : List ℕ) (ended : Bool) → commands (given ++ bytes) ended ≡ items ++ left reader bytes ended
   pub drained : commands reader.bytes false ≡ []
   pub advances : Advances start standing old new items [] dones
 
 -- a session ended for want of memory: its first items were run, and the others of its bytes are left
-starves : (limit : ℕ) (told : Option (List ℕ)) (faults : ℕ) (reaches : ℕ → ℕ → Type 0) (start : Standing) (old new : List Entry) (dones : List Done) (bytes : List ℕ) (items others : List Next) → IsOpened start old → IsTold told bytes → commands bytes true ≡ items ++ others → Stops start old new items [] dones → RunsSource limit told faults reaches start.session old new dones Starved
-starves limit told faults reaches start old new dones bytes items others at source is stops =
-    let stopped : IsStopped start.session old new items dones = stops old [] (so_far_opened start old at) in
+starves : (limits : Limits) (told : Option (List ℕ)) (faults : ℕ) (reaches : ℕ → ℕ → Type 0) (start : Standing) (old new : List Entry) (dones : List Done) (bytes : List ℕ) (items others : List Next) → IsOpened limits start old → IsTold told bytes → commands bytes true ≡ items ++ others → Stops start old new items [] dones → RunsSource limits told faults reaches start.session old new dones Starved
+starves limits told faults reaches start old new dones bytes items others at source is stops =
+    let same : start.limits ≡ limits = ap (λ standing. standing.limits) at.opened in
+    let stopped : IsStopped limits start.session old new items dones = rw same at (stops old [] (so_far_opened limits start old at)) in
     record {
       grown = stopped.grown;
       items = items ++ others;
@@ -83,21 +86,22 @@ starves limit told faults reaches start old new dones bytes items others at sour
     }
 
 -- a session ended otherwise: each item of what was read was run
-ends : (limit : ℕ) (told : Option (List ℕ)) (faults : ℕ) (reaches : ℕ → ℕ → Type 0) (start after : Standing) (old new : List Entry) (dones : List Done) (items : List Next) (end : End) → IsOpened start old → Advances start after old new items [] dones → ReadTo limit told faults reaches end items → RunsSource limit told faults reaches start.session old new dones end
-ends limit told faults reaches start after old new dones items end at advances read =
-    let so_far : IsSoFar old new after items dones = advances.so_far old [] (so_far_opened start old at) in
+ends : (limits : Limits) (told : Option (List ℕ)) (faults : ℕ) (reaches : ℕ → ℕ → Type 0) (start after : Standing) (old new : List Entry) (dones : List Done) (items : List Next) (end : End) → IsOpened limits start old → Advances start after old new items [] dones → ReadTo limits.source told faults reaches end items → RunsSource limits told faults reaches start.session old new dones end
+ends limits told faults reaches start after old new dones items end at advances read =
+    let so_far : IsSoFar old new after items dones = advances.so_far old [] (so_far_opened limits start old at) in
     let behind = advances.ready.behind in
+    let same : after.limits ≡ limits = advances.limits ∙ ap (λ standing. standing.limits) at.opened in
     record {
-      grown = rw advances.session at so_far.grown;
+      grown = rw (advances.session, same) at so_far.grown;
       items = items;
       read = read;
-      replies = Replies-end new start.session 0 items dones end (rw advances.session at so_far.replies);
+      replies = Replies-end limits new start.session 0 items dones end (rw (advances.session, same) at so_far.replies);
       climbs = Climbs-raise (length old) dones after.mark (length new) behind so_far.climbs;
     }
 
 -- before the first read
-pub reading_none : (limit : ℕ) (told : Option (List ℕ)) (faults : ℕ) (reaches : ℕ → ℕ → Type 0) (reader : Stream) (start : Standing) (old : List Entry) (dones : List Done) → reader ≡ record { bytes = []; ended = false } → dones ≡ [] → IsOpened start old → IsReading limit told told faults faults reaches reaches 0 reader start start old old dones
-reading_none limit told faults reaches reader start old dones fresh none at = record {
+pub reading_none : (limits : Limits) (told : Option (List ℕ)) (faults : ℕ) (reaches : ℕ → ℕ → Type 0) (reader : Stream) (start : Standing) (old : List Entry) (dones : List Done) → reader ≡ record { bytes = []; ended = false } → dones ≡ [] → IsOpened limits start old → IsReading limits told told faults faults reaches reaches 0 reader start start old old dones
+reading_none limits told faults reaches reader start old dones fresh none at = record {
   given = [];
   items = [];
   consumed = Consumes-nil told;
@@ -108,17 +112,17 @@ reading_none limit told faults reaches reader start old dones fresh none at = re
   going = ap (λ stream. stream.ended) fresh;
   whole = λ bytes ended. rw fresh refl;
   drained = rw fresh refl;
-  advances = rw none (advances_none start old [] (ready_opened start old [] refl at));
+  advances = rw none (advances_none start old [] (ready_opened limits start old [] refl at));
 }
 
 -- no memory was found before the first read
-pub ends_unread : (limit : ℕ) (told : Option (List ℕ)) (faults : ℕ) (reaches : ℕ → ℕ → Type 0) (start : Standing) (old : List Entry) (dones : List Done) → dones ≡ [] → IsOpened start old → RunsSource limit told faults reaches start.session old old dones Starved
-ends_unread limit told faults reaches start old dones none at =
+pub ends_unread : (limits : Limits) (told : Option (List ℕ)) (faults : ℕ) (reaches : ℕ → ℕ → Type 0) (start : Standing) (old : List Entry) (dones : List Done) → dones ≡ [] → IsOpened limits start old → RunsSource limits told faults reaches start.session old old dones Starved
+ends_unread limits told faults reaches start old dones none at =
     let bytes = told_bytes told told [] (Consumes-nil told) in
-    starves limit told faults reaches start old old dones bytes.0 [] (commands bytes.0 true) at bytes.1 refl
-    (rw none (stops_here start old [] [] (ready_opened start old [] refl at)))
+    starves limits told faults reaches start old old dones bytes.0 [] (commands bytes.0 true) at bytes.1 refl
+    (rw none (stops_here start old [] [] (ready_opened limits start old [] refl at)))
 
-module _ (limit : ℕ) (told now : Option (List ℕ)) (faults faults_now : ℕ) (reaches reaches_now : ℕ → ℕ → Type 0) (total : ℕ) (reader : Stream) (start standing : Standing) (old new : List Entry) (dones : List Done) (at : IsOpened start old) (reading : IsReading limit told now faults faults_now reaches reaches_now total reader start standing old new dones) where
+module _ (limits : Limits) (told now : Option (List ℕ)) (faults faults_now : ℕ) (reaches reaches_now : ℕ → ℕ → Type 0) (total : ℕ) (reader : Stream) (start standing : Standing) (old new : List Entry) (dones : List Done) (at : IsOpened limits start old) (reading : IsReading limits told now faults faults_now reaches reaches_now total reader start standing old new dones) where
   -- the items that stand whole in the bytes given so far
   items_so_far : reading.items ≡ commands reading.given false
   items_so_far =
@@ -127,11 +131,11 @@ module _ (limit : ℕ) (told now : Option (List ℕ)) (faults faults_now : ℕ) 
       sym (rw (append-nil, none, append-nil) at is)
 
   -- a read failed
-  pub ends_failed : (count : ℕ) → faults_now < count → (reaches_now 0 count) → RunsSource limit told faults reaches start.session old new dones (Read count)
+  pub ends_failed : (count : ℕ) → faults_now < count → (reaches_now 0 count) → RunsSource limits told faults reaches start.session old new dones (Read count)
   ends_failed count risen reached =
       let bytes = told_bytes told now reading.given reading.consumed in
       let within = reading.within in
-      ends limit told faults reaches start standing old new dones reading.items (Read count) at reading.advances (record {
+      ends limits told faults reaches start standing old new dones reading.items (Read count) at reading.advances (record {
         given = reading.given;
         rest = bytes.0;
         source = bytes.1;
@@ -152,12 +156,12 @@ module _ (limit : ℕ) (told now : Option (List ℕ)) (faults faults_now : ℕ) 
         rw (append-nil, same) at is
 
     -- the source was read to its end
-    pub ends_finished : Consumes now after [] → IsAtEnd after → RunsAll whole rest [] standing last new newer dones more → RunsSource limit told faults reaches start.session old newer more Finished
+    pub ends_finished : Consumes now after [] → IsAtEnd after → RunsAll whole rest [] standing last new newer dones more → RunsSource limits told faults reaches start.session old newer more Finished
     ends_finished consumed at_end all =
         let none : left rest [] true ≡ [] = rw (all.same_end, closed) (rw (all.same_end, closed) at all.drained) in
         let items : commands reader.bytes true ≡ all.items = sym (left_closed [] true) ∙ all.given [] true ∙ ap (λ others. all.items ++ others) none ∙ append-nil all.items in
         let source = Consumes-trans told now after reading.given [] reading.consumed consumed in
-        ends limit told faults reaches start last old newer more (reading.items ++ all.items) Finished at
+        ends limits told faults reaches start last old newer more (reading.items ++ all.items) Finished at
         (advances_on start standing last old new newer reading.items all.items [] dones more reading.advances all.advances) (record {
           bytes = reading.given;
           source = told_at_end told after reading.given (rw append-nil at source) at_end;
@@ -166,13 +170,13 @@ module _ (limit : ℕ) (told now : Option (List ℕ)) (faults faults_now : ℕ) 
         })
 
     -- no memory was found for what stood at the end
-    pub ends_starved_last : Consumes now after [] → IsAtEnd after → RunsSome whole [] standing new newer dones more → RunsSource limit told faults reaches start.session old newer more Starved
+    pub ends_starved_last : Consumes now after [] → IsAtEnd after → RunsSome whole [] standing new newer dones more → RunsSource limits told faults reaches start.session old newer more Starved
     ends_starved_last consumed at_end some =
         let others = some.given [] true in
         let source = Consumes-trans told now after reading.given [] reading.consumed consumed in
         let is : commands reading.given true ≡ (reading.items ++ some.items) ++ others.0 =
         whole_closed ∙ ap (λ items. reading.items ++ items) (sym (left_closed [] true) ∙ others.1) ∙ sym (append_assoc reading.items some.items others.0) in
-        starves limit told faults reaches start old newer more reading.given (reading.items ++ some.items) others.0 at (told_at_end told after reading.given (rw append-nil at source) at_end) is
+        starves limits told faults reaches start old newer more reading.given (reading.items ++ some.items) others.0 at (told_at_end told after reading.given (rw append-nil at source) at_end) is
         (stops_on start standing old new newer reading.items some.items [] dones more reading.advances some.stops)
 
   module _ (after : Option (List ℕ)) (rest : Stream) (last : Standing) (newer : List Entry) (more : List Done) (piece skipped : List ℕ) (consumed : Consumes now after (piece ++ skipped)) where
@@ -183,13 +187,13 @@ module _ (limit : ℕ) (told now : Option (List ℕ)) (faults faults_now : ℕ) 
     regroup bytes = append_assoc reading.given (piece ++ skipped) bytes ∙ ap (λ others. reading.given ++ others) (append_assoc piece skipped bytes)
 
     -- no memory was found for a piece
-    pub ends_starved : RunsSome reader piece standing new newer dones more → RunsSource limit told faults reaches start.session old newer more Starved
+    pub ends_starved : RunsSome reader piece standing new newer dones more → RunsSource limits told faults reaches start.session old newer more Starved
     ends_starved some =
         let bytes = told_bytes told after (reading.given ++ (piece ++ skipped)) consumed_all in
         let others = some.given (skipped ++ bytes.0) true in
         let is : commands ((reading.given ++ (piece ++ skipped)) ++ bytes.0) true ≡ (reading.items ++ some.items) ++ others.0 =
         ap (λ all. commands all true) (regroup bytes.0) ∙ reading.whole (piece ++ (skipped ++ bytes.0)) true ∙ ap (λ items. reading.items ++ items) others.1 ∙ sym (append_assoc reading.items some.items others.0) in
-        starves limit told faults reaches start old newer more ((reading.given ++ (piece ++ skipped)) ++ bytes.0) (reading.items ++ some.items) others.0 at bytes.1 is
+        starves limits told faults reaches start old newer more ((reading.given ++ (piece ++ skipped)) ++ bytes.0) (reading.items ++ some.items) others.0 at bytes.1 is
         (stops_on start standing old new newer reading.items some.items [] dones more reading.advances some.stops)
 
     whole_further : (all : RunsAll reader rest piece standing last new newer dones more) → (bytes : List ℕ) (ended : Bool) → commands ((reading.given ++ piece) ++ bytes) ended ≡ (reading.items ++ all.items) ++ left rest bytes ended
@@ -205,22 +209,22 @@ module _ (limit : ℕ) (told now : Option (List ℕ)) (faults faults_now : ℕ) 
         sym (rw (append-nil, none, append-nil) at (whole_further all [] false))
 
     -- the source gave more bytes than the limit
-    pub ends_too_long : (bytes : ℕ) → limit < bytes → bytes ≡ total + length (piece ++ skipped) → total + length piece ≡ limit → RunsAll reader rest piece standing last new newer dones more → RunsSource limit told faults reaches start.session old newer more (SourceTooLong bytes)
+    pub ends_too_long : (bytes : ℕ) → limits.source < bytes → bytes ≡ total + length (piece ++ skipped) → total + length piece ≡ limits.source → RunsAll reader rest piece standing last new newer dones more → RunsSource limits told faults reaches start.session old newer more (SourceTooLong bytes)
     ends_too_long count above count_is full all =
         let bytes = told_bytes told after (reading.given ++ (piece ++ skipped)) consumed_all in
         let first : (reading.given ++ (piece ++ skipped)) ++ bytes.0 ≡ (reading.given ++ piece) ++ (skipped ++ bytes.0) = regroup bytes.0 ∙ sym (append_assoc reading.given piece (skipped ++ bytes.0)) in
-        let long : length (reading.given ++ piece) ≡ limit = simp length-append (omega (arith, reading.total_is)) in
-        ends limit told faults reaches start last old newer more (reading.items ++ all.items) (SourceTooLong count) at
+        let long : length (reading.given ++ piece) ≡ limits.source = simp length-append (omega (arith, reading.total_is)) in
+        ends limits told faults reaches start last old newer more (reading.items ++ all.items) (SourceTooLong count) at
         (advances_on start standing last old new newer reading.items all.items [] dones more reading.advances all.advances) (record {
           bytes = (reading.given ++ (piece ++ skipped)) ++ bytes.0;
           source = bytes.1;
           above = above;
           within = omega (arith, reading.total_is, length-append (reading.given ++ (piece ++ skipped)) bytes.0, length-append reading.given (piece ++ skipped));
-          items_are = rw (first, take_at (reading.given ++ piece) (skipped ++ bytes.0) limit long) (items_further all);
+          items_are = rw (first, take_at (reading.given ++ piece) (skipped ++ bytes.0) limits.source long) (items_further all);
         })
 
     -- a piece within the limit was read, and its items were run
-    pub reading_on : (faults_after : ℕ) (reaches_after : ℕ → ℕ → Type 0) (total_after : ℕ) → skipped ≡ [] → faults_after ≡ faults_now → ((bytes count : ℕ) → reaches_after bytes count → reaches_now (length piece + bytes) count) → total_after ≡ total + length piece → total_after ≤ limit → RunsAll reader rest piece standing last new newer dones more → IsReading limit told after faults faults_after reaches reaches_after total_after rest start last old newer more
+    pub reading_on : (faults_after : ℕ) (reaches_after : ℕ → ℕ → Type 0) (total_after : ℕ) → skipped ≡ [] → faults_after ≡ faults_now → ((bytes count : ℕ) → reaches_after bytes count → reaches_now (length piece + bytes) count) → total_after ≡ total + length piece → total_after ≤ limits.source → RunsAll reader rest piece standing last new newer dones more → IsReading limits told after faults faults_after reaches reaches_after total_after rest start last old newer more
     reading_on faults_after reaches_after total_after none same_faults reached total_is within all = record {
       given = reading.given ++ piece;
       items = reading.items ++ all.items;
@@ -235,7 +239,7 @@ module _ (limit : ℕ) (told now : Option (List ℕ)) (faults faults_now : ℕ) 
       advances = advances_on start standing last old new newer reading.items all.items [] dones more reading.advances all.advances;
     }
 
-  module _ (after : Option (List ℕ)) (rest : Stream) (last : Standing) (newer : List Entry) (more : List Done) (count kept : ℕ) (room view : List ℕ) (same : view ≡ room) (fits : count ≤ length room) (kept_is : kept ≡ min count (limit - total)) (read : Consumes now after (take count room)) where
+  module _ (after : Option (List ℕ)) (rest : Stream) (last : Standing) (newer : List Entry) (more : List Done) (count kept : ℕ) (room view : List ℕ) (same : view ≡ room) (fits : count ≤ length room) (kept_is : kept ≡ min count (limits.source - total)) (read : Consumes now after (take count room)) where
     below : kept ≤ count
     below = omega arith
 
@@ -248,16 +252,16 @@ module _ (limit : ℕ) (told now : Option (List ℕ)) (faults faults_now : ℕ) 
     read_in_pieces : Consumes now after (take kept view ++ drop kept (take count room))
     read_in_pieces = rw pieces read
 
-    pub piece_starved : RunsSome reader (take kept view) standing new newer dones more → RunsSource limit told faults reaches start.session old newer more Starved
+    pub piece_starved : RunsSome reader (take kept view) standing new newer dones more → RunsSource limits told faults reaches start.session old newer more Starved
     piece_starved some = ends_starved after rest last newer more (take kept view) (drop kept (take count room)) read_in_pieces some
 
-    pub piece_too_long : limit < total + count → RunsAll reader rest (take kept view) standing last new newer dones more → RunsSource limit told faults reaches start.session old newer more (SourceTooLong (total + count))
+    pub piece_too_long : limits.source < total + count → RunsAll reader rest (take kept view) standing last new newer dones more → RunsSource limits told faults reaches start.session old newer more (SourceTooLong (total + count))
     piece_too_long above all =
         let within = reading.within in
         ends_too_long after rest last newer more (take kept view) (drop kept (take count room)) read_in_pieces (total + count) above
         (rw (pieces, length-take) (omega arith)) (rw long (omega arith)) all
 
-    pub piece_read : (faults_after : ℕ) (reaches_after : ℕ → ℕ → Type 0) → total + count ≤ limit → faults_after ≡ faults_now → ((bytes failed : ℕ) → reaches_after bytes failed → reaches_now (count + bytes) failed) → RunsAll reader rest (take kept view) standing last new newer dones more → IsReading limit told after faults faults_after reaches reaches_after (total + count) rest start last old newer more
+    pub piece_read : (faults_after : ℕ) (reaches_after : ℕ → ℕ → Type 0) → total + count ≤ limits.source → faults_after ≡ faults_now → ((bytes failed : ℕ) → reaches_after bytes failed → reaches_now (count + bytes) failed) → RunsAll reader rest (take kept view) standing last new newer dones more → IsReading limits told after faults faults_after reaches reaches_after (total + count) rest start last old newer more
     piece_read faults_after reaches_after within same_faults reached all =
         let whole : kept ≡ count = omega arith in
         let length_is : length (take kept view) ≡ count = long ∙ whole in
@@ -265,8 +269,8 @@ module _ (limit : ℕ) (told now : Option (List ℕ)) (faults faults_now : ℕ) 
         (drop_all kept (take count room) (rw length-take (omega arith))) same_faults (λ bytes failed can. rw length_is (reached bytes failed can)) (rw length_is refl) within all
 
 -- the log of a session that was run
-pub serves : (limit : ℕ) (told : Option (List ℕ)) (faults : ℕ) (reaches : ℕ → ℕ → Type 0) (number : SessionNo) (phase opened : ℕ) (old new : List Entry) (dones list : List Done) (end : End) → opened ≡ length old → list ≡ dones → RunsSource limit told faults reaches number.0 old new dones end → Serves limit told faults reaches number.0 phase old new (record { number = number; phase = phase; opened = opened; done = list; end = end })
-serves limit told faults reaches number phase opened old new dones list end at same runs = record {
+pub serves : (limits : Limits) (told : Option (List ℕ)) (faults : ℕ) (reaches : ℕ → ℕ → Type 0) (number : SessionNo) (phase opened : ℕ) (old new : List Entry) (dones list : List Done) (end : End) → opened ≡ length old → list ≡ dones → RunsSource limits told faults reaches number.0 old new dones end → Serves limits told faults reaches number.0 phase old new (record { number = number; phase = phase; opened = opened; done = list; end = end })
+serves limits told faults reaches number phase opened old new dones list end at same runs = record {
   added = runs.grown.added;
   grows = runs.grown.grows;
   owned = rw same runs.grown.owned;

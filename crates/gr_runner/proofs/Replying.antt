@@ -2,6 +2,7 @@
 use Rattle.std.proofs.Common.{◌≡◌, ℕ, ◌+◌, ◌<◌, ◌≤◌, ◌==◌, List, [], ◌∷◌, ◌++◌, length, inl, inr, true, false, refl, add-zero, arith}
 use Rattle.std.proofs.lemmas.Bool.{and_parts, and_right, eqb-true, ne_eqb}
 use Rattle.std.specs.List.{AllByRecursion}
+use Rattle.gr_base.specs.declared.numbers.Limits.{Limits}
 use Rattle.gr_model.specs.declared.entry.Entry.{Entry}
 use Rattle.gr_session.proofs.Owning.{Reply-more}
 use Rattle.gr_session.specs.Own.{is_own}
@@ -24,41 +25,41 @@ all_later session command before [] below all = tt
 all_later session command before (entry ∷ entries) below all = (own_later session command before entry below all.0, all_later session command before entries below all.1)
 
 -- replies stand where the journal grows by entries of later commands
-pub Replies-more : (journal more : List Entry) (session command : ℕ) (items : List Next) (dones : List Done) → ((before : ℕ) → before < command + length dones → AllByRecursion (λ entry. is_own session before entry ≡ false) more) → Replies journal session command items dones Finished → Replies (journal ++ more) session command items dones Finished
-Replies-more journal more session command items [] others replies = replies
-Replies-more journal more session command [] (done ∷ dones) others replies = absurd replies
-Replies-more journal more session command (item ∷ items) (done ∷ dones) others (inl (reply, later)) = inl (
-  Reply-more journal more session command item done (others command (omega arith)) reply,
-  Replies-more journal more session (command + 1) items dones (λ before below. others before (omega arith)) later,
+pub Replies-more : (limits : Limits) (journal more : List Entry) (session command : ℕ) (items : List Next) (dones : List Done) → ((before : ℕ) → before < command + length dones → AllByRecursion (λ entry. is_own session before entry ≡ false) more) → Replies limits journal session command items dones Finished → Replies limits (journal ++ more) session command items dones Finished
+Replies-more limits journal more session command items [] others replies = replies
+Replies-more limits journal more session command [] (done ∷ dones) others replies = absurd replies
+Replies-more limits journal more session command (item ∷ items) (done ∷ dones) others (inl (reply, later)) = inl (
+  Reply-more limits journal more session command item done (others command (omega arith)) reply,
+  Replies-more limits journal more session (command + 1) items dones (λ before below. others before (omega arith)) later,
 )
-Replies-more journal more session command (item ∷ items) (done ∷ dones) others (inr (starved, last, end)) = absurd (cc)
+Replies-more limits journal more session command (item ∷ items) (done ∷ dones) others (inr (starved, last, end)) = absurd (cc)
 
 -- one more reply
-pub Replies-push : (journal : List Entry) (session command : ℕ) (items : List Next) (dones : List Done) (item : Next) (done : Done) → Replies journal session command items dones Finished → Reply journal session (command + length dones) item done → Replies journal session command (items ++ item ∷ []) (dones ++ done ∷ []) Finished
-Replies-push journal session command [] [] item done replies reply = inl (rw add-zero at reply, refl)
-Replies-push journal session command (first ∷ items) [] item done replies reply = absurd (cc)
-Replies-push journal session command [] (d ∷ dones) item done replies reply = absurd replies
-Replies-push journal session command (first ∷ items) (d ∷ dones) item done (inl (one, later)) reply =
+pub Replies-push : (limits : Limits) (journal : List Entry) (session command : ℕ) (items : List Next) (dones : List Done) (item : Next) (done : Done) → Replies limits journal session command items dones Finished → Reply limits journal session (command + length dones) item done → Replies limits journal session command (items ++ item ∷ []) (dones ++ done ∷ []) Finished
+Replies-push limits journal session command [] [] item done replies reply = inl (rw add-zero at reply, refl)
+Replies-push limits journal session command (first ∷ items) [] item done replies reply = absurd (cc)
+Replies-push limits journal session command [] (d ∷ dones) item done replies reply = absurd replies
+Replies-push limits journal session command (first ∷ items) (d ∷ dones) item done (inl (one, later)) reply =
     let at : command + length (d ∷ dones) ≡ command + 1 + length dones = omega arith in
-    inl (one, Replies-push journal session (command + 1) items dones item done later (rw at at reply))
-Replies-push journal session command (first ∷ items) (d ∷ dones) item done (inr (starved, last, end)) reply = absurd (cc)
+    inl (one, Replies-push limits journal session (command + 1) items dones item done later (rw at at reply))
+Replies-push limits journal session command (first ∷ items) (d ∷ dones) item done (inr (starved, last, end)) reply = absurd (cc)
 
 -- the reply to want of memory is the last, whatever follows
-pub Replies-starve : (journal : List Entry) (session command : ℕ) (items : List Next) (dones : List Done) (item : Next) (done : Done) (rest : List Next) → Replies journal session command items dones Finished → IsStarved journal session (command + length dones) item done → Replies journal session command (items ++ item ∷ rest) (dones ++ done ∷ []) NoMemory
-Replies-starve journal session command [] [] item done rest replies starved = inr (rw add-zero at starved, refl, refl)
-Replies-starve journal session command (first ∷ items) [] item done rest replies starved = absurd (cc)
-Replies-starve journal session command [] (d ∷ dones) item done rest replies starved = absurd replies
-Replies-starve journal session command (first ∷ items) (d ∷ dones) item done rest (inl (one, later)) starved =
+pub Replies-starve : (limits : Limits) (journal : List Entry) (session command : ℕ) (items : List Next) (dones : List Done) (item : Next) (done : Done) (rest : List Next) → Replies limits journal session command items dones Finished → IsStarved journal session (command + length dones) item done → Replies limits journal session command (items ++ item ∷ rest) (dones ++ done ∷ []) NoMemory
+Replies-starve limits journal session command [] [] item done rest replies starved = inr (rw add-zero at starved, refl, refl)
+Replies-starve limits journal session command (first ∷ items) [] item done rest replies starved = absurd (cc)
+Replies-starve limits journal session command [] (d ∷ dones) item done rest replies starved = absurd replies
+Replies-starve limits journal session command (first ∷ items) (d ∷ dones) item done rest (inl (one, later)) starved =
     let at : command + length (d ∷ dones) ≡ command + 1 + length dones = omega arith in
-    inl (one, Replies-starve journal session (command + 1) items dones item done rest later (rw at at starved))
-Replies-starve journal session command (first ∷ items) (d ∷ dones) item done rest (inr (none, last, end)) starved = absurd (cc)
+    inl (one, Replies-starve limits journal session (command + 1) items dones item done rest later (rw at at starved))
+Replies-starve limits journal session command (first ∷ items) (d ∷ dones) item done rest (inr (none, last, end)) starved = absurd (cc)
 
 -- want of memory leaves what follows without replies
-pub Replies-stop : (journal : List Entry) (session command : ℕ) (items : List Next) (dones : List Done) (rest : List Next) → Replies journal session command items dones Finished → Replies journal session command (items ++ rest) dones NoMemory
-Replies-stop journal session command items [] rest replies = tt
-Replies-stop journal session command [] (done ∷ dones) rest replies = absurd replies
-Replies-stop journal session command (item ∷ items) (done ∷ dones) rest (inl (reply, later)) = inl (reply, Replies-stop journal session (command + 1) items dones rest later)
-Replies-stop journal session command (item ∷ items) (done ∷ dones) rest (inr (starved, last, end)) = absurd (cc)
+pub Replies-stop : (limits : Limits) (journal : List Entry) (session command : ℕ) (items : List Next) (dones : List Done) (rest : List Next) → Replies limits journal session command items dones Finished → Replies limits journal session command (items ++ rest) dones NoMemory
+Replies-stop limits journal session command items [] rest replies = tt
+Replies-stop limits journal session command [] (done ∷ dones) rest replies = absurd replies
+Replies-stop limits journal session command (item ∷ items) (done ∷ dones) rest (inl (reply, later)) = inl (reply, Replies-stop limits journal session (command + 1) items dones rest later)
+Replies-stop limits journal session command (item ∷ items) (done ∷ dones) rest (inr (starved, last, end)) = absurd (cc)
 
 answered : (end : End) → AreAnswered [] end
 answered Finished = refl
@@ -67,12 +68,12 @@ answered (SourceTooLong bytes) = refl
 answered NoMemory = tt
 
 -- where each item has its reply, the end may be any
-pub Replies-end : (journal : List Entry) (session command : ℕ) (items : List Next) (dones : List Done) (end : End) → Replies journal session command items dones Finished → Replies journal session command items dones end
-Replies-end journal session command [] [] end replies = answered end
-Replies-end journal session command (item ∷ items) [] end replies = absurd (cc)
-Replies-end journal session command [] (done ∷ dones) end replies = absurd replies
-Replies-end journal session command (item ∷ items) (done ∷ dones) end (inl (reply, later)) = inl (reply, Replies-end journal session (command + 1) items dones end later)
-Replies-end journal session command (item ∷ items) (done ∷ dones) end (inr (starved, last, is)) = absurd (cc)
+pub Replies-end : (limits : Limits) (journal : List Entry) (session command : ℕ) (items : List Next) (dones : List Done) (end : End) → Replies limits journal session command items dones Finished → Replies limits journal session command items dones end
+Replies-end limits journal session command [] [] end replies = answered end
+Replies-end limits journal session command (item ∷ items) [] end replies = absurd (cc)
+Replies-end limits journal session command [] (done ∷ dones) end replies = absurd replies
+Replies-end limits journal session command (item ∷ items) (done ∷ dones) end (inl (reply, later)) = inl (reply, Replies-end limits journal session (command + 1) items dones end later)
+Replies-end limits journal session command (item ∷ items) (done ∷ dones) end (inr (starved, last, is)) = absurd (cc)
 
 pub Climbs-raise : (low : ℕ) (dones : List Done) (top higher : ℕ) → top ≤ higher → Climbs low dones top → Climbs low dones higher
 Climbs-raise low [] top higher above climbs = omega arith

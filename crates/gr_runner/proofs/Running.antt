@@ -1,12 +1,16 @@
 -- Phases that run one after the other, and the run that they make.
-use Rattle.std.proofs.Common.{◌≡◌, ℕ, ◌+◌, ◌-◌, ◌^◌, ◌≤◌, ◌<◌, ◌⊎◌, Option, None, List, [], ◌∷◌, ◌++◌, length, map, take, drop, Vec, Global, refl, sym, ap, ◌∙◌, inl, inr, arith, append-nil, append_assoc, length-append}
+use Rattle.std.proofs.Common.{◌≡◌, ℕ, ◌+◌, ◌-◌, ◌^◌, ◌≤◌, ◌<◌, ◌⊎◌, Option, Some, None, List, [], ◌∷◌, ◌++◌, length, map, take, drop, Vec, Global, refl, sym, ap, ◌∙◌, inl, inr, arith, append-nil, append_assoc, length-append}
 use Rattle.std.proofs.KnownBytes.{Appends-nil, Appends-trans}
 use Rattle.std.proofs.lemmas.Grind.{flat_map-append}
 use Rattle.std.proofs.lemmas.List.{drop_at, length_push, map-append, take_all, take_at, take_rest}
 use Rattle.std.proofs.lemmas.List.Elements.{Contains-append_cases}
+use Rattle.std.specs.Arc.{arc_value}
 use Rattle.std.specs.Io.KnownBytes.{Appends}
 use Rattle.std.specs.List.{AllByRecursion, Contains, flat_map}
+use Rattle.std.specs.declared.sync.Arc.{Arc}
+use Rattle.gr_base.specs.declared.numbers.Limits.{Limits}
 use Rattle.gr_model.specs.declared.entry.Entry.{Entry}
+use Rattle.gr_publish.specs.Root.{Rooted}
 use Rattle.gr_runner.specs.Course.{Course, EndsPhase, IsEnding, RunsPhase, status_of_end}
 use Rattle.gr_runner.specs.History.{IsOwned, sources_of}
 use Rattle.gr_runner.specs.Run.{Run, first_unfinished, texts_of}
@@ -39,18 +43,18 @@ pub lists_none : {S : Type 0} (rest : List (Vec S Global)) → length rest ≡ 0
 lists_none [] none = refl
 lists_none (sources ∷ rest) none = absurd (omega (arith, none))
 
-module _ {S : Type 0} (told : S → Option (List ℕ)) (faults : S → ℕ) (reaches : S → ℕ → ℕ → Type 0) (limit : ℕ) where
-  module _ (phase : ℕ) (sources : List S) (old new : List Entry) (logs logs_after : List SessionLog) (before after : Option (List ℕ)) (writes writes_after : ℕ) (written : List SessionLog) (runs : RunsPhase told faults reaches limit phase sources old new logs logs_after) (all : written ≡ runs.added) where
+module _ {S : Type 0} (told : S → Option (List ℕ)) (faults : S → ℕ) (reaches : S → ℕ → ℕ → Type 0) (limits : Limits) where
+  module _ (phase : ℕ) (sources : List S) (old new : List Entry) (logs logs_after : List SessionLog) (before after : Option (List ℕ)) (writes writes_after : ℕ) (written : List SessionLog) (runs : RunsPhase told faults reaches limits phase sources old new logs logs_after) (all : written ≡ runs.added) where
     -- a phase ran and all its texts were written
-    pub ends_whole : (status : Status) → IsWrittenWhole before after writes writes_after (texts_of written) → status ≡ status_of_end (first_unfinished written) → EndsPhase told faults reaches limit phase sources old new logs logs_after before after writes writes_after status
+    pub ends_whole : (status : Status) → IsWrittenWhole before after writes writes_after (texts_of written) → status ≡ status_of_end (first_unfinished written) → EndsPhase told faults reaches limits phase sources old new logs logs_after before after writes writes_after status
     ends_whole status whole is = record { runs = runs; ending = inl (rw (← all) whole, is ∙ ap (λ added. status_of_end (first_unfinished added)) all) }
 
     -- a phase ran and a write failed
-    pub ends_cut : IsCutOff before after writes writes_after (texts_of written) → EndsPhase told faults reaches limit phase sources old new logs logs_after before after writes writes_after Write
+    pub ends_cut : IsCutOff before after writes writes_after (texts_of written) → EndsPhase told faults reaches limits phase sources old new logs logs_after before after writes writes_after Write
     ends_cut off = record { runs = runs; ending = inr (rw (← all) off, refl) }
 
   -- each entry of a course is of one of its sessions
-  entries_of_first : (phases : List (List S)) (journal : List Entry) (logs : List SessionLog) → Course told faults reaches limit phases journal logs → AreOfFirst (length logs) journal
+  entries_of_first : (phases : List (List S)) (journal : List Entry) (logs : List SessionLog) → Course told faults reaches limits phases journal logs → AreOfFirst (length logs) journal
   entries_of_first phases journal logs course =
       all_weaker (IsOwned logs) (λ entry. entry.session.0 ≤ length logs) journal (λ entry owned. let among = (course.sessions owned.log owned.among).number in omega (arith, among, owned.session)) course.history.owners
 
@@ -59,7 +63,7 @@ module _ {S : Type 0} (told : S → Option (List ℕ)) (faults : S → ℕ) (rea
     pub all : phases ≡ seen ++ rest
     pub count : phase ≡ length seen
     pub few : length phases < 2 ^ 31
-    pub course : Course told faults reaches limit seen journal logs
+    pub course : Course told faults reaches limits seen journal logs
     pub finished : first_unfinished logs ≡ None
     pub taken : Appends before now (texts_of logs)
     pub same : writes_now ≡ writes
@@ -72,7 +76,7 @@ module _ {S : Type 0} (told : S → Option (List ℕ)) (faults : S → ℕ) (rea
     all = sym same;
     count = refl;
     few = few;
-    course = rw (no_entries, no_logs) (Course-none told faults reaches limit);
+    course = rw (no_entries, no_logs) (Course-none told faults reaches limits);
     finished = rw no_logs refl;
     taken = rw no_logs (Appends-nil before);
     same = refl;
@@ -113,8 +117,8 @@ module _ {S : Type 0} (told : S → Option (List ℕ)) (faults : S → ℕ) (rea
     taken_phases : take (phase + 1) phases ≡ seen ++ sources ∷ []
     taken_phases = ap (take (phase + 1)) phases_are ∙ take_at (seen ++ sources ∷ []) later (phase + 1) (omega (arith, length_push seen sources, ran.count))
 
-    module _ (new : List Entry) (logs_after : List SessionLog) (runs : RunsPhase told faults reaches limit (phase + 1) sources old new logs logs_after) where
-      course_after : Course told faults reaches limit (seen ++ sources ∷ []) new logs_after
+    module _ (new : List Entry) (logs_after : List SessionLog) (runs : RunsPhase told faults reaches limits (phase + 1) sources old new logs logs_after) where
+      course_after : Course told faults reaches limits (seen ++ sources ∷ []) new logs_after
       course_after = runs.goes_on seen (ap (λ count. count + 1) ran.count) ran.course
 
       unfinished_after : first_unfinished logs_after ≡ first_unfinished runs.added
@@ -152,21 +156,21 @@ module _ {S : Type 0} (told : S → Option (List ℕ)) (faults : S → ℕ) (rea
             places = omega (arith, count, left, ran.places, roomier);
           }
 
-      run_of : (next : Option (List ℕ)) (writes_next : ℕ) (status : Status) → IsEnding now next writes_now writes_next runs.added status → (status ≡ Ok → ⊥) → Run told faults reaches limit phases (record { status = status; journal = new; sessions = logs_after }) before next (writes < writes_next)
-      run_of next writes_next status (inl both) not_ok = record {
+      run_of : (next : Option (List ℕ)) (writes_next : ℕ) (status : Status) → IsEnding now next writes_now writes_next runs.added status → (status ≡ Ok → ⊥) → (root : Arc Rooted Global) → (arc_value root).journal ≡ new → Run told faults reaches limits phases (record { status = status; root = Some root; sessions = logs_after }) before next (writes < writes_next)
+      run_of next writes_next status (inl both) not_ok root is_root = record {
         started = phase + 1;
         among = among_all;
-        history = rw taken_phases course_after.history;
+        history = rw (is_root, taken_phases) course_after.history;
         last = λ log among not. last_after log (among_after log among) not;
         cause = rw both.1 (cause_of_end phases (phase + 1) logs_after (writes < writes_next) (first_unfinished runs.added) unfinished_after (λ risen. omega (arith, risen, both.0.same, ran.same)) (λ is. not_ok (both.1 ∙ is)));
         written = rw both.1 (written_of_end (first_unfinished runs.added) (phase + 1) logs_after before next (rw texts_after (taken_after next (texts_of runs.added) both.0.taken)));
       }
-      run_of next writes_next status (inr both) not_ok =
+      run_of next writes_next status (inr both) not_ok root is_root =
           let risen : writes < writes_next = omega (arith, both.0.risen, ran.same) in
           record {
             started = phase + 1;
             among = among_all;
-            history = rw taken_phases course_after.history;
+            history = rw (is_root, taken_phases) course_after.history;
             last = λ log among not. last_after log (among_after log among) not;
             cause = rw both.1 risen;
             written = rw both.1 (record {
@@ -187,23 +191,23 @@ module _ {S : Type 0} (told : S → Option (List ℕ)) (faults : S → ℕ) (rea
       ran_on-by next writes_next room_after seen_after seen_is roomier (inr both) = cc
 
     -- a phase more ran to its end
-    pub ran_on : (new : List Entry) (logs_after : List SessionLog) (next : Option (List ℕ)) (writes_next room_after : ℕ) (seen_after : List (List S)) → seen_after ≡ seen ++ sources ∷ [] → room ≤ room_after → EndsPhase told faults reaches limit (phase + 1) sources old new logs logs_after now next writes_now writes_next Ok → HasRun phases seen_after later (phase + 1) new logs_after before next writes writes_next room_after
+    pub ran_on : (new : List Entry) (logs_after : List SessionLog) (next : Option (List ℕ)) (writes_next room_after : ℕ) (seen_after : List (List S)) → seen_after ≡ seen ++ sources ∷ [] → room ≤ room_after → EndsPhase told faults reaches limits (phase + 1) sources old new logs logs_after now next writes_now writes_next Ok → HasRun phases seen_after later (phase + 1) new logs_after before next writes writes_next room_after
     ran_on new logs_after next writes_next room_after seen_after seen_is roomier ends = ran_on-by new logs_after ends.runs next writes_next room_after seen_after seen_is roomier ends.ending
 
     -- a phase ended otherwise, and with it the run
-    pub ended : (new : List Entry) (logs_after : List SessionLog) (next : Option (List ℕ)) (writes_next : ℕ) (status : Status) → EndsPhase told faults reaches limit (phase + 1) sources old new logs logs_after now next writes_now writes_next status → (status ≡ Ok → ⊥) → Run told faults reaches limit phases (record { status = status; journal = new; sessions = logs_after }) before next (writes < writes_next)
-    ended new logs_after next writes_next status ends not_ok = run_of new logs_after ends.runs next writes_next status ends.ending not_ok
+    pub ended : (new : List Entry) (logs_after : List SessionLog) (next : Option (List ℕ)) (writes_next : ℕ) (status : Status) → EndsPhase told faults reaches limits (phase + 1) sources old new logs logs_after now next writes_now writes_next status → (status ≡ Ok → ⊥) → (root : Arc Rooted Global) → (arc_value root).journal ≡ new → Run told faults reaches limits phases (record { status = status; root = Some root; sessions = logs_after }) before next (writes < writes_next)
+    ended new logs_after next writes_next status ends not_ok root is_root = run_of new logs_after ends.runs next writes_next status ends.ending not_ok root is_root
 
   -- all phases ran to their ends
-  pub completed : (phases seen rest : List (List S)) (phase : ℕ) (journal : List Entry) (logs : List SessionLog) (before now : Option (List ℕ)) (writes writes_now room : ℕ) → rest ≡ [] → HasRun phases seen rest phase journal logs before now writes writes_now room → Run told faults reaches limit phases (record { status = Ok; journal = journal; sessions = logs }) before now (writes < writes_now)
-  completed phases seen rest phase journal logs before now writes writes_now room none ran =
+  pub completed : (phases seen rest : List (List S)) (phase : ℕ) (journal : List Entry) (logs : List SessionLog) (before now : Option (List ℕ)) (writes writes_now room : ℕ) → rest ≡ [] → HasRun phases seen rest phase journal logs before now writes writes_now room → (root : Arc Rooted Global) → (arc_value root).journal ≡ journal → Run told faults reaches limits phases (record { status = Ok; root = Some root; sessions = logs }) before now (writes < writes_now)
+  completed phases seen rest phase journal logs before now writes writes_now room none ran root is_root =
       let same : phases ≡ seen = ran.all ∙ ap (λ other. seen ++ other) none ∙ append-nil seen in
       let whole : phase ≡ length phases = ran.count ∙ ap length (sym same) in
       let taken_all : take phase phases ≡ seen = take_all phase phases (omega (arith, whole)) ∙ same in
       record {
         started = phase;
         among = omega (arith, whole);
-        history = rw taken_all ran.course.history;
+        history = rw (is_root, taken_all) ran.course.history;
         last = λ log among not. absurd (not (all_at (λ other. other.end ≡ Finished) logs log (all_finished logs ran.finished) among));
         cause = record { all = whole; finished = ran.finished; written = λ risen. omega (arith, risen, ran.same) };
         written = ran.taken;

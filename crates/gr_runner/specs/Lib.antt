@@ -1,7 +1,9 @@
+pub mod Complete
 pub mod Course
 pub mod History
 pub mod Main
 pub mod Progress
+pub mod Reported
 pub mod Run
 pub mod Served
 pub mod Sessions

@@ -1,6 +1,8 @@
 -- What the top call does with its words.
 use Rattle.std.specs.Prelude.{ℕ, ◌≡◌, ◌==◌, ◌<◌, if◌then◌else◌, Option, Some, None, List, [], ◌∷◌, Contains}
+use Rattle.gr_base.specs.declared.numbers.Limits.{Limits}
 use Rattle.gr_runner.specs.History.{sources_of}
+use Rattle.gr_runner.specs.Reported.{journal_of}
 use Rattle.gr_runner.specs.Run.{Run}
 use Rattle.gr_runner.specs.declared.report.Report.{Report}
 use Rattle.gr_runner.specs.declared.status.Status.TheVariants.{Open, Usage}
@@ -15,7 +17,7 @@ phases_named (first ∷ second ∷ others) = None
 -- nothing ran: no session, and no entry
 pub record IsNothingRun (report : Report) : Type 0 where
   pub sessions : report.sessions ≡ []
-  pub journal : report.journal ≡ []
+  pub journal : journal_of report ≡ []
 
 -- the words are refused: nothing was opened, run or written
 pub record IsUsage {F K : Type 0} (report : Report) (files files_after : F) (sink sink_after : K) : Type 0 where
@@ -35,6 +37,6 @@ pub record IsNotOpened {K : Type 0} (can_fail : List ℕ → Type 0) (phases : L
   pub sink_same : sink_after ≡ sink
 
 -- each file was opened, and they were run: what each name tells, and that its file began without faults
-pub record IsRun (told : List ℕ → Option (List ℕ)) (reaches : List ℕ → ℕ → ℕ → Type 0) (limit : ℕ) (phases : List (List (List ℕ))) (report : Report) (faults faults_after : ℕ) (before after : Option (List ℕ)) (write_failed : Type 0) : Type 0 where
+pub record IsRun (told : List ℕ → Option (List ℕ)) (reaches : List ℕ → ℕ → ℕ → Type 0) (limits : Limits) (phases : List (List (List ℕ))) (report : Report) (faults faults_after : ℕ) (before after : Option (List ℕ)) (write_failed : Type 0) : Type 0 where
   pub opened : faults_after ≡ faults
-  pub run : Run told (λ _. 0) reaches limit phases report before after write_failed
+  pub run : Run told (λ _. 0) reaches limits phases report before after write_failed

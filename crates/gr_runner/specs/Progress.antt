@@ -1,7 +1,8 @@
 -- How far a session has come, and what a stretch of its commands does.
-use Rattle.std.specs.Prelude.{ℕ, ◌≡◌, ◌<◌, ◌≤◌, ◌⊎◌, ◌++◌, Bool, false, Option, Result, Ok, Err, List, [], ◌∷◌, length}
+use Rattle.std.specs.Prelude.{ℕ, ◌≡◌, ◌<◌, ◌≤◌, ◌⊎◌, ◌++◌, Bool, false, Option, None, Result, Ok, Err, List, [], ◌∷◌, length}
 use Rattle.std.specs.List.{AllByRecursion}
 use Rattle.gr_base.specs.declared.memory.NoMemory.{NoMemory}
+use Rattle.gr_base.specs.declared.numbers.Limits.{Limits}
 use Rattle.gr_model.specs.Accepted.{IsAccepted}
 use Rattle.gr_model.specs.declared.entry.Entry.{Entry}
 use Rattle.gr_session.specs.Commands.{commands}
@@ -22,39 +23,41 @@ IsEarlier number commands entry = (entry.session.0 < number) ⊎ IsOfSession num
 -- the next command can be run: each command so far has its reply, and no entry of it or of a later one stands
 pub record IsReady (standing : Standing) (journal : List Entry) (dones : List Done) : Type 0 where
   pub running : standing.ended ≡ false
+  pub idle : standing.going ≡ None
   pub behind : standing.mark ≤ length journal
   pub counted : standing.command ≡ length dones
   pub earlier : AllByRecursion (IsEarlier standing.session (length dones)) journal
 
 -- the journal grew by entries of this session's first commands alone, each accepted where it stands
-pub record Grows (number commands : ℕ) (old new : List Entry) : Type 0 where
+pub record Grows (limits : Limits) (number commands : ℕ) (old new : List Entry) : Type 0 where
   pub added : List Entry
   pub grows : new ≡ old ++ added
   pub owned : AllByRecursion (IsOfSession number commands) added
-  pub accepted : IsAccepted old → IsAccepted new
+  pub accepted : IsAccepted limits old → IsAccepted limits new
 
 -- from a journal on, each of these items has its reply
 pub record IsSoFar (base journal : List Entry) (standing : Standing) (items : List Next) (dones : List Done) : Type 0 where
-  pub grown : Grows standing.session (length dones) base journal
-  pub replies : Replies journal standing.session 0 items dones Finished
+  pub grown : Grows standing.limits standing.session (length dones) base journal
+  pub replies : Replies standing.limits journal standing.session 0 items dones Finished
   pub climbs : Climbs (length base) dones standing.mark
 
 -- from a journal on, the first of these items have their replies, and no memory was found for those that follow
-pub record IsStopped (number : ℕ) (base journal : List Entry) (items : List Next) (dones : List Done) : Type 0 where
-  pub grown : Grows number (length dones) base journal
-  pub replies : (rest : List Next) → Replies journal number 0 (items ++ rest) dones Starved
+pub record IsStopped (limits : Limits) (number : ℕ) (base journal : List Entry) (items : List Next) (dones : List Done) : Type 0 where
+  pub grown : Grows limits number (length dones) base journal
+  pub replies : (rest : List Next) → Replies limits journal number 0 (items ++ rest) dones Starved
   pub climbs : Climbs (length base) dones (length journal)
 
 -- these items were run, each with its reply, and the next command can be run
 pub record Advances (before after : Standing) (old new : List Entry) (items : List Next) (dones more : List Done) : Type 0 where
   pub ready : IsReady after new more
+  pub limits : after.limits ≡ before.limits
   pub session : after.session ≡ before.session
   pub so_far : (base : List Entry) (first : List Next) → IsSoFar base old before first dones → IsSoFar base new after (first ++ items) more
 
 -- the first of these items were run, until no memory was found
 abbrev pub Stops : Standing → List Entry → List Entry → List Next → List Done → List Done → Type 0
 Stops before old new items dones more =
-    (base : List Entry) (first : List Next) → IsSoFar base old before first dones → IsStopped before.session base new (first ++ items) more
+    (base : List Entry) (first : List Next) → IsSoFar base old before first dones → IsStopped before.limits before.session base new (first ++ items) more
 
 -- one item was run, with its reply, or no memory was found
 abbrev pub RunsOne : Standing → Standing → List Entry → List Entry → Next → List Done → List Done → Result (Unit {0}) NoMemory → Type 0
@@ -81,9 +84,9 @@ RunsPiece stream rest piece before after old new dones more (Ok done) = RunsAll 
 RunsPiece stream rest piece before after old new dones more (Err none) = RunsSome stream piece before old new dones more
 
 -- a session's source was read so far, and its commands have their replies
-pub record RunsSource (limit : ℕ) (told : Option (List ℕ)) (faults : ℕ) (reaches : ℕ → ℕ → Type 0) (number : ℕ) (old new : List Entry) (dones : List Done) (end : End) : Type 0 where
-  pub grown : Grows number (length dones) old new
+pub record RunsSource (limits : Limits) (told : Option (List ℕ)) (faults : ℕ) (reaches : ℕ → ℕ → Type 0) (number : ℕ) (old new : List Entry) (dones : List Done) (end : End) : Type 0 where
+  pub grown : Grows limits number (length dones) old new
   pub items : List Next
-  pub read : ReadTo limit told faults reaches end items
-  pub replies : Replies new number 0 items dones end
+  pub read : ReadTo limits.source told faults reaches end items
+  pub replies : Replies limits new number 0 items dones end
   pub climbs : Climbs (length old) dones (length new)

@@ -2,7 +2,9 @@
 use Rattle.std.specs.Prelude.{ℕ, ◌≡◌, ◌≢◌, ◌<◌, ◌≤◌, ◌⊎◌, ◌++◌, Option, Some, None, List, [], ◌∷◌, length, take, Contains}
 use Rattle.std.specs.Io.KnownBytes.{Appends}
 use Rattle.std.specs.List.{AllByRecursion, flat_map}
+use Rattle.gr_base.specs.declared.numbers.Limits.{Limits}
 use Rattle.gr_runner.specs.History.{History}
+use Rattle.gr_runner.specs.Reported.{journal_of}
 use Rattle.gr_runner.specs.declared.report.End.{End}
 use Rattle.gr_runner.specs.declared.report.End.TheVariants.{Finished, Read, SourceTooLong, NoMemory as NoMemoryEnd}
 use Rattle.gr_runner.specs.declared.report.Report.{Report}
@@ -75,10 +77,10 @@ IsWritten NoMemory started logs before after = Appends before after (texts_of lo
 IsWritten TooLong started logs before after = Appends before after (texts_of logs)
 
 -- a run: the first phases ran, whole; where a session is not Finished its phase is the last that ran; and the status and what was written say so
-pub record Run {S : Type 0} (told : S → Option (List ℕ)) (faults : S → ℕ) (reaches : S → ℕ → ℕ → Type 0) (limit : ℕ) (phases : List (List S)) (report : Report) (before after : Option (List ℕ)) (write_failed : Type 0) : Type 0 where
+pub record Run {S : Type 0} (told : S → Option (List ℕ)) (faults : S → ℕ) (reaches : S → ℕ → ℕ → Type 0) (limits : Limits) (phases : List (List S)) (report : Report) (before after : Option (List ℕ)) (write_failed : Type 0) : Type 0 where
   pub started : ℕ
   pub among : started ≤ length phases
-  pub history : History told faults reaches limit (take started phases) report.journal report.sessions
+  pub history : History told faults reaches limits (take started phases) (journal_of report) report.sessions
   pub last : (log : SessionLog) → Contains report.sessions log → log.end ≢ Finished → log.phase ≡ started
   pub cause : IsCause phases started report.sessions write_failed report.status
   pub written : IsWritten report.status started report.sessions before after

@@ -1,5 +1,6 @@
 -- What a session's log means, read off the whole journal.
 use Rattle.std.specs.Prelude.{ℕ, ◌≡◌, ◌+◌, ◌≤◌, ◌⊎◌, Option, List, [], ◌∷◌, length}
+use Rattle.gr_base.specs.declared.numbers.Limits.{Limits}
 use Rattle.gr_model.specs.declared.entry.Entry.{Entry}
 use Rattle.gr_session.specs.Reply.{IsStarved, Reply}
 use Rattle.gr_session.specs.declared.command.Next.{Next}
@@ -17,11 +18,11 @@ AreAnswered items (SourceTooLong bytes) = items ≡ []
 AreAnswered items NoMemory = Unit {0}
 
 -- each reply holds for its item, in order; the reply to want of memory stands only last, and then that is the end
-abbrev pub Replies : List Entry → ℕ → ℕ → List Next → List Done → End → Type 0
-Replies journal session command items [] end = AreAnswered items end
-Replies journal session command [] (done ∷ more) end = ⊥
-Replies journal session command (item ∷ items) (done ∷ more) end =
-    (Reply journal session command item done × Replies journal session (command + 1) items more end)
+abbrev pub Replies : Limits → List Entry → ℕ → ℕ → List Next → List Done → End → Type 0
+Replies limits journal session command items [] end = AreAnswered items end
+Replies limits journal session command [] (done ∷ more) end = ⊥
+Replies limits journal session command (item ∷ items) (done ∷ more) end =
+    (Reply limits journal session command item done × Replies limits journal session (command + 1) items more end)
     ⊎ (IsStarved journal session command item done × (more ≡ []) × (end ≡ NoMemory))
 
 -- from and mark of each command in turn never fall, from where the session opened up to the journal's length
@@ -30,8 +31,8 @@ Climbs low [] top = low ≤ top
 Climbs low (done ∷ more) top = (low ≤ done.from) × (done.from ≤ done.mark) × Climbs done.mark more top
 
 -- a session's log holds: its source was read so far, its commands have their replies, and its places climb
-pub record Holds (limit : ℕ) (told : Option (List ℕ)) (faults : ℕ) (reaches : ℕ → ℕ → Type 0) (journal : List Entry) (log : SessionLog) : Type 0 where
+pub record Holds (limits : Limits) (told : Option (List ℕ)) (faults : ℕ) (reaches : ℕ → ℕ → Type 0) (journal : List Entry) (log : SessionLog) : Type 0 where
   pub items : List Next
-  pub read : ReadTo limit told faults reaches log.end items
-  pub replies : Replies journal log.number.0 0 items log.done log.end
+  pub read : ReadTo limits.source told faults reaches log.end items
+  pub replies : Replies limits journal log.number.0 0 items log.done log.end
   pub climbs : Climbs log.opened log.done (length journal)

@@ -7,10 +7,10 @@ ghost use Rattle.gr_runner.specs.Progress.{IsReady, RunsOne, RunsPiece, RunsSour
 ghost use Rattle.gr_runner.specs.Served.{Serves};
 
 use super::{Dones, End, SessionLog};
-use gr_base::{NoMemory, SessionNo};
-use gr_model::State;
+use gr_base::{Limits, NoMemory, SessionNo};
 use gr_outside::{Failed, Source};
-use gr_session::{Done, Next, Reader, Session};
+use gr_publish::Solo;
+use gr_session::{Done, Next, Reader, Session, step_solo};
 use std::alloc::Global;
 
 // How many bytes are asked of a source at once.
@@ -19,21 +19,23 @@ const PIECE: usize = 65_536;
 // Runs the session of one source, of which no entry stands yet.
 pub(crate) fn run_session<S: Source + Drop>(
     alloc: Global,
-    limit: u64,
+    limits: Limits,
     number: SessionNo,
     phase: u32,
-    state: &mut State,
+    solo: &mut Solo,
     source: S,
 ) -> SessionLog
-    requires limit { limit ≤ 2 ^ 28 }
+    requires limits { limits ≡ solo.old.limits }
+    requires limit { limits.source ≤ 2 ^ 28 }
     requires countable { S.faults source < 2 ^ 64 - 1 }
-    requires first { AllByRecursion (λ entry. entry.session.0 < number.0) state.old }
-    ensures { Serves limit (S.left source) (S.faults source) (S.reaches source) number.0 phase state.old state.new result }
+    requires first { AllByRecursion (λ entry. entry.session.0 < number.0) solo.old.journal }
+    ensures limits { solo.new.limits ≡ solo.old.limits }
+    ensures serves { Serves limits (S.left source) (S.faults source) (S.reaches source) number.0 phase solo.old.journal solo.new.journal result }
 {
-    let opened = state.journal().len();
+    let opened = solo.pin().journal().len();
     let mut done = Vec::new(alloc);
-    let end = match Session::open(alloc, number, opened) {
-        Ok(session) => run_source(alloc, limit, session, state, source, &mut done),
+    let end = match Session::open(alloc, number, limits, opened) {
+        Ok(session) => run_source(alloc, limits, session, solo, source, &mut done),
         Err(NoMemory) => End::NoMemory,
     };
     SessionLog {
@@ -48,18 +50,20 @@ pub(crate) fn run_session<S: Source + Drop>(
 // Reads a source in pieces, and runs the commands of each as they become whole.
 fn run_source<S: Source + Drop>(
     alloc: Global,
-    limit: u64,
+    limits: Limits,
     mut session: Session,
-    state: &mut State,
+    solo: &mut Solo,
     mut source: S,
     done: &mut Vec<Done>,
 ) -> End
-    requires limit { limit ≤ 2 ^ 28 }
+    requires limits { limits ≡ solo.old.limits }
+    requires limit { limits.source ≤ 2 ^ 28 }
     requires countable { S.faults source < 2 ^ 64 - 1 }
-    requires opened { session ≡ opened_at session.session (length state.old) }
-    requires first { AllByRecursion (λ entry. entry.session.0 < session.session) state.old }
+    requires opened { session ≡ opened_at limits session.session (length solo.old.journal) }
+    requires first { AllByRecursion (λ entry. entry.session.0 < session.session) solo.old.journal }
     requires none { done.old.items ≡ [] }
-    ensures { RunsSource limit (S.left source) (S.faults source) (S.reaches source) session.session state.old state.new done.new.items result }
+    ensures limits { solo.new.limits ≡ solo.old.limits }
+    ensures runs { RunsSource limits (S.left source) (S.faults source) (S.reaches source) session.session solo.old.journal solo.new.journal done.new.items result }
 {
     let Ok(mut room) = piece(alloc) else {
         return End::NoMemory;
@@ -70,19 +74,19 @@ fn run_source<S: Source + Drop>(
         match source.read(&mut room) {
             Ok(0) => {
                 reader.end();
-                return match run_commands(alloc, &mut session, state, &mut reader, done) {
+                return match run_commands(alloc, &mut session, solo, &mut reader, done) {
                     Ok(()) => End::Finished,
                     Err(NoMemory) => End::NoMemory,
                 };
             }
             Ok(given) => {
-                let kept = within(limit, total, given);
+                let kept = within(limits.source, total, given);
                 total += given as u64;
                 let piece = &room[..kept];
-                if run_piece(alloc, &mut session, state, &mut reader, piece, done).is_err() {
+                if run_piece(alloc, &mut session, solo, &mut reader, piece, done).is_err() {
                     return End::NoMemory;
                 }
-                if total > limit {
+                if total > limits.source {
                     return End::SourceTooLong { bytes: total };
                 }
             }
@@ -110,35 +114,39 @@ fn piece(alloc: Global) -> Result<Vec<u8>, NoMemory>
 fn run_piece(
     alloc: Global,
     session: &mut Session,
-    state: &mut State,
+    solo: &mut Solo,
     reader: &mut Reader,
     piece: &[u8],
     done: &mut Vec<Done>,
 ) -> Result<(), NoMemory>
     requires going { reader.old.ended ≡ false }
-    requires ready { IsReady session.old state.old done.old.items }
-    ensures { RunsPiece reader.old reader.new piece.now session.old session.new state.old state.new done.old.items done.new.items result }
+    requires ready { IsReady session.old solo.old.journal done.old.items }
+    requires limits { session.old.limits ≡ solo.old.limits }
+    ensures limits { solo.new.limits ≡ solo.old.limits }
+    ensures runs { RunsPiece reader.old reader.new piece.now session.old session.new solo.old.journal solo.new.journal done.old.items done.new.items result }
 {
     reader.feed(piece)?;
-    run_commands(alloc, session, state, reader, done)
+    run_commands(alloc, session, solo, reader, done)
 }
 
 // Runs the commands that stand whole in what was fed.
 fn run_commands(
     alloc: Global,
     session: &mut Session,
-    state: &mut State,
+    solo: &mut Solo,
     reader: &mut Reader,
     done: &mut Vec<Done>,
 ) -> Result<(), NoMemory>
-    requires { IsReady session.old state.old done.old.items }
-    ensures { RunsPiece reader.old reader.new [] session.old session.new state.old state.new done.old.items done.new.items result }
+    requires ready { IsReady session.old solo.old.journal done.old.items }
+    requires limits { session.old.limits ≡ solo.old.limits }
+    ensures limits { solo.new.limits ≡ solo.old.limits }
+    ensures runs { RunsPiece reader.old reader.new [] session.old session.new solo.old.journal solo.new.journal done.old.items done.new.items result }
 {
     'commands: loop {
         match reader.next_command(alloc) {
             Next::NeedMore | Next::End => return Ok(()),
             Next::NoMemory => return Err(NoMemory),
-            item => run_command(alloc, session, state, item, done)?,
+            item => run_command(alloc, session, solo, item, done)?,
         }
     }
 }
@@ -147,16 +155,18 @@ fn run_commands(
 fn run_command(
     alloc: Global,
     session: &mut Session,
-    state: &mut State,
+    solo: &mut Solo,
     item: Next,
     done: &mut Vec<Done>,
 ) -> Result<(), NoMemory>
     requires item { IsItem item }
-    requires ready { IsReady session.old state.old done.old.items }
-    ensures { RunsOne session.old session.new state.old state.new item done.old.items done.new.items result }
+    requires ready { IsReady session.old solo.old.journal done.old.items }
+    requires limits { session.old.limits ≡ solo.old.limits }
+    ensures limits { solo.new.limits ≡ solo.old.limits }
+    ensures runs { RunsOne session.old session.new solo.old.journal solo.new.journal item done.old.items done.new.items result }
 {
     done.reserve(1)?;
-    let reply = session.step(alloc, state, item);
+    let reply = step_solo(alloc, session, solo, item);
     done.push_reserved(reply);
     if session.ended() {
         return Err(NoMemory);

@@ -1,12 +1,12 @@
 // The top call: from the program's words to its report.
 ghost use Rattle.std.specs.Prelude.{◌≡◌, ◌<◌, ◌-◌, ◌^◌, ◌⊎◌, ◌∷◌, [], map, IfOk, IfSome, MatchOption, None, Some, string_bytes};
 ghost use Rattle.gr_base.specs.Limits.{default_limits};
+ghost use Rattle.gr_runner.specs.Complete.{IsCompleteMain};
 ghost use Rattle.gr_runner.specs.Main.{IsNothingRun, IsNotOpened, IsRun, IsUsage, phases_named};
 ghost use Rattle.gr_runner.specs.Run.{Run};
 
 use super::{Report, SessionLogs, Status, run_serial};
 use gr_base::{Limits, NoMemory};
-use gr_model::Journal;
 use gr_outside::{Files, OpenFault, Sink, Source};
 use std::alloc::Global;
 
@@ -22,7 +22,27 @@ pub fn main_call<F: Files, K: Sink>(
     ensures usage { phases_named (map string_bytes words.now) ≡ None → IsUsage result files.old files.new sink.old sink.new }
     ensures run { IfSome (phases_named (map string_bytes words.now)) (λ phases.
         IsNotOpened (F.can_fail files.old) phases result (F.faults files.old) (F.faults files.new) sink.old sink.new
-        ⊎ IsRun (F.bytes_of files.old) (F.pairs_of files.old) default_limits.source phases result
+        ⊎ IsRun (F.bytes_of files.old) (F.pairs_of files.old) default_limits phases result
+        (F.faults files.old) (F.faults files.new) (K.taken sink.old) (K.taken sink.new) (K.faults sink.old < K.faults sink.new)) }
+    ensures complete { IfSome (phases_named (map string_bytes words.now)) (IsCompleteMain (F.bytes_of files.old) (F.pairs_of files.old)
+        (F.can_fail files.old) default_limits result (K.faults sink.old < K.faults sink.new)) }
+{
+    run_words(alloc, words, files, sink)
+}
+
+// The same call, of which that its run is complete follows.
+fn run_words<F: Files, K: Sink>(
+    alloc: Global,
+    words: &[String],
+    files: &mut F,
+    sink: &mut K,
+) -> Report
+    requires files_countable { F.faults files.old < 2 ^ 64 - 1 }
+    requires sink_countable { K.faults sink.old < 2 ^ 64 - 1 }
+    ensures usage { phases_named (map string_bytes words.now) ≡ None → IsUsage result files.old files.new sink.old sink.new }
+    ensures run { IfSome (phases_named (map string_bytes words.now)) (λ phases.
+        IsNotOpened (F.can_fail files.old) phases result (F.faults files.old) (F.faults files.new) sink.old sink.new
+        ⊎ IsRun (F.bytes_of files.old) (F.pairs_of files.old) default_limits phases result
         (F.faults files.old) (F.faults files.new) (K.taken sink.old) (K.taken sink.new) (K.faults sink.old < K.faults sink.new)) }
 {
     let Some(name) = file_named(words) else {
@@ -50,7 +70,7 @@ fn file_named(words: &[String]) -> Option<&str>
 fn run_file<S: Source + Drop, K: Sink>(alloc: Global, file: S, sink: &mut K) -> Report
     requires fresh { S.faults file ≡ 0 }
     requires sink_countable { K.faults sink.old < 2 ^ 64 - 1 }
-    ensures { Run S.left S.faults S.reaches default_limits.source ((file ∷ []) ∷ []) result
+    ensures { Run S.left S.faults S.reaches default_limits ((file ∷ []) ∷ []) result
         (K.taken sink.old) (K.taken sink.new) (K.faults sink.old < K.faults sink.new) }
 {
     match one_phase(alloc, file) {
@@ -77,7 +97,7 @@ fn nothing_run(alloc: Global, status: Status) -> Report
 {
     Report {
         status,
-        journal: Journal::new(alloc),
+        root: None,
         sessions: SessionLogs::from_vec(Vec::new(alloc)),
     }
 }

@@ -1,8 +1,9 @@
 // What a run reports of itself.
 use super::Status;
 use gr_base::{ListOf, SessionNo};
-use gr_model::Journal;
+use gr_publish::Root;
 use gr_session::Done;
+use std::sync::Arc;
 
 /// The replies of a session, in order.
 pub type Dones = ListOf<Done>;
@@ -49,8 +50,8 @@ pub struct SessionLog {
 pub struct Report {
     /// How it ended.
     pub status: Status,
-    /// The one journal of the run.
-    pub journal: Journal,
+    /// The last state, whose journal is the one of the run; none where no memory was found for the first.
+    pub root: Option<Arc<Root>>,
     /// Its sessions.
     pub sessions: SessionLogs,
 }

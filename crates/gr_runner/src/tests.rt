@@ -1,6 +1,6 @@
 // Whole runs, over files and a sink in memory.
 ghost use Rattle.std.specs.Prelude.{◌≡◌, ◌<◌, IfOk};
-ghost use Rattle.gr_base.specs.Limits.{default_limits};
+ghost use Rattle.gr_base.specs.Limits.{IsInRange, IsUpTo};
 
 use super::{Report, Status, main_call, run_serial};
 use gr_base::{Bytes, Limits, NoMemory};
@@ -132,22 +132,77 @@ fn no_words_are_refused(rt: HostRuntime) -> Result<(), Fail> {
     Ok(())
 }
 
+// One run of one source under these limits.
+fn serial(
+    alloc: Global,
+    limits: Limits,
+    text: &str,
+    sink: &mut MemorySink,
+) -> Result<Report, NoMemory>
+    requires limits { IsInRange limits }
+    requires sink { sink.old.faults ≡ 0 }
+{
+    let bytes = Bytes::from_slice(alloc, text.as_bytes())?;
+    let mut sources = Vec::new(alloc);
+    sources.push(MemorySource::new(bytes, calls(alloc, &[])?, 4)?)?;
+    let mut phases = Vec::new(alloc);
+    phases.push(sources)?;
+    Ok(run_serial(alloc, limits, phases, sink))
+}
+
+// Whether a text has these replies under these limits.
+fn replies_under(
+    alloc: Global,
+    records: u32,
+    journal: u64,
+    text: &str,
+    want: &str,
+) -> Result<bool, NoMemory>
+    requires records { IsUpTo 16777216 records }
+    requires journal { IsUpTo 67108864 journal }
+{
+    let mut limits = Limits::default();
+    limits.records = records;
+    limits.journal = journal;
+    let mut sink = sink(alloc, &[])?;
+    let report = serial(alloc, limits, text, &mut sink)?;
+    Ok(report.status == Status::Ok && sink.taken() == want.as_bytes())
+}
+
+#[test]
+fn a_full_table_and_a_full_journal_are_told(rt: HostRuntime) -> Result<(), Fail> {
+    let alloc = rt.alloc();
+    let text =
+        "table_create T TABLE_HASH_KEY ShortText\nload --table T --values '[{\"_key\":\"a\"},{\"_key\":\"b\"},{\"_key\":\"c\"}]'\n";
+    assert!(rt;
+        replies_under(
+            alloc,
+            2,
+            9,
+            text,
+            "[[0],true]\n[[34,\"TableFull row 3 T\"],2]\n"
+        )?
+    );
+    let text = "table_create T TABLE_HASH_KEY ShortText\ntable_create U TABLE_HASH_KEY ShortText\n";
+    assert!(rt;
+        replies_under(
+            alloc,
+            9,
+            1,
+            text,
+            "[[0],true]\n[[35,\"JournalFull\"],false]\n"
+        )?
+    );
+    Ok(())
+}
+
 #[test]
 fn a_source_above_the_limit_keeps_the_commands_within_it(rt: HostRuntime) -> Result<(), Fail> {
     let alloc = rt.alloc();
     let mut limits = Limits::default();
     limits.source = 10;
-    let source = MemorySource::new(
-        Bytes::from_slice(alloc, b"a\n345678\n#\n")?,
-        calls(alloc, &[])?,
-        4,
-    )?;
-    let mut sources = Vec::new(alloc);
-    sources.push(source)?;
-    let mut phases = Vec::new(alloc);
-    phases.push(sources)?;
     let mut sink = sink(alloc, &[])?;
-    let report = run_serial(alloc, limits, phases, &mut sink);
+    let report = serial(alloc, limits, "a\n345678\n#\n", &mut sink)?;
     assert_eq!(rt; report.status, Status::SourceTooLong);
     assert_eq!(rt; report.sessions.as_slice().len(), 1);
     Ok(())

@@ -1,8 +1,16 @@
 pub mod Accepting
-mod Creating
+mod Asking
+mod Ending
+mod Finding
+mod Fitting
 mod Found
+mod Holding
 pub mod Lines
 pub mod Owning
+mod Placing
+mod Quotes
+mod Running
+mod Showing
 mod Steps
 mod Texts
 mod Words

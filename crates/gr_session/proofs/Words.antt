@@ -3,7 +3,7 @@ use Rattle.std.proofs.Common.{◌≡◌, ℕ, ◌+◌, true, false, not, cond, L
 use Rattle.std.specs.List.{slice_split, onto_first, prefix_len}
 use Rattle.std.proofs.lemmas.List.Splits.{slice_split-cons_yes, slice_split-cons_no}
 use Rattle.std.proofs.lemmas.Bool.{lt-ltb, ne_eqb}
-use Rattle.gr_session.specs.Commands.{is_blank, words}
+use Rattle.gr_session.specs.Commands.{after_word, from_blank, is_blank, unblanked, words}
 
 -- how many blanks a line begins with
 abbrev pub blanks : List ℕ → ℕ
@@ -16,11 +16,20 @@ to_blank line = prefix_len (λ c. not (is_blank c)) line
 words-past : (c : ℕ) (cs : List ℕ) → is_blank c ≡ true → words (c ∷ cs) ≡ words cs
 words-past c cs e = ap (filter (λ word. nat_lt 0 (length word))) (slice_split-cons_yes is_blank c cs e)
 
-words-skip : (line : List ℕ) → words (drop (blanks line) line) ≡ words line
-words-skip [] = refl
-words-skip (c ∷ cs) =
-    elim (is_blank c) as (λ b. is_blank c ≡ b → words (drop (cond b (1 + blanks cs) 0) (c ∷ cs)) ≡ words (c ∷ cs)) [
-      | true ↦ λ e. rw one-add (words-skip cs ∙ sym (words-past c cs e))
+-- a line without the blanks that it begins with
+pub drop-blanks : (line : List ℕ) → drop (blanks line) line ≡ unblanked line
+drop-blanks [] = refl
+drop-blanks (c ∷ cs) =
+    elim (is_blank c) as (λ b. drop (cond b (1 + blanks cs) 0) (c ∷ cs) ≡ cond b (unblanked cs) (c ∷ cs)) [
+      | true ↦ rw one-add (drop-blanks cs)
+      | false ↦ refl
+    ]
+
+words-unblanked : (line : List ℕ) → words (unblanked line) ≡ words line
+words-unblanked [] = refl
+words-unblanked (c ∷ cs) =
+    elim (is_blank c) as (λ b. is_blank c ≡ b → words (cond b (unblanked cs) (c ∷ cs)) ≡ words (c ∷ cs)) [
+      | true ↦ λ e. words-unblanked cs ∙ sym (words-past c cs e)
       | false ↦ λ e. refl
     ] refl
 
@@ -29,13 +38,21 @@ abbrev pub Starts : List ℕ → Type 0
 Starts [] = Unit {0}
 Starts (c ∷ cs) = is_blank c ≡ false
 
-Starts-skip : (line : List ℕ) → Starts (drop (blanks line) line)
-Starts-skip [] = tt
-Starts-skip (c ∷ cs) =
-    elim (is_blank c) as (λ b. is_blank c ≡ b → Starts (drop (cond b (1 + blanks cs) 0) (c ∷ cs))) [
-      | true ↦ λ e. rw one-add (Starts-skip cs)
+Starts-unblanked : (line : List ℕ) → Starts (unblanked line)
+Starts-unblanked [] = tt
+Starts-unblanked (c ∷ cs) =
+    elim (is_blank c) as (λ b. is_blank c ≡ b → Starts (cond b (unblanked cs) (c ∷ cs))) [
+      | true ↦ λ e. Starts-unblanked cs
       | false ↦ λ e. e
     ] refl
+
+drop-to_blank : (line : List ℕ) → drop (to_blank line) line ≡ from_blank line
+drop-to_blank [] = refl
+drop-to_blank (c ∷ cs) =
+    elim (is_blank c) as (λ b. drop (cond (not b) (1 + to_blank cs) 0) (c ∷ cs) ≡ cond b (c ∷ cs) (from_blank cs)) [
+      | true ↦ refl
+      | false ↦ rw one-add (drop-to_blank cs)
+    ]
 
 -- the parts of a line, where the first has n bytes
 record PartsAt (line : List ℕ) (n : ℕ) : Type 0 where
@@ -83,16 +100,19 @@ none-cut (c ∷ cs) starts none = absurd (let long : length (take (suc (to_blank
 
 -- the first word of a line, found behind its blanks, and what stands after it
 pub record FindsWord (line rest word more : List ℕ) : Type 0 where
-  pub behind : rest ≡ drop (blanks line) line
+  pub behind : rest ≡ unblanked line
   pub first : word ≡ take (to_blank rest) rest
   pub after : more ≡ drop (to_blank rest) rest
 
 pub words-FindsWord : {line rest word more : List ℕ} → FindsWord line rest word more → words line ≡ cond (nat_eq (length word) 0) [] (word ∷ words more)
 words-FindsWord {line} {rest} {word} {more} found =
-    rw (found.first, found.after, found.behind) (sym (words-skip line) ∙ words-cut (drop (blanks line) line) (Starts-skip line))
+    rw (found.first, found.after, found.behind) (sym (words-unblanked line) ∙ words-cut (unblanked line) (Starts-unblanked line))
 
 -- where there is no first word nothing stands after it
 pub none-FindsWord : {line rest word more : List ℕ} → FindsWord line rest word more → length word ≡ 0 → length more ≡ 0
 none-FindsWord {line} {rest} {word} {more} found none =
-    let starts : Starts rest = rw found.behind (Starts-skip line) in
+    let starts : Starts rest = rw found.behind (Starts-unblanked line) in
     rw found.after (none-cut rest starts (rw found.first at none))
+
+pub rest-FindsWord : {line rest word more : List ℕ} → FindsWord line rest word more → more ≡ after_word line
+rest-FindsWord {line} {rest} {word} {more} found = rw (found.after, found.behind) (drop-to_blank (unblanked line))

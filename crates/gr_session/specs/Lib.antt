@@ -1,7 +1,9 @@
+pub mod Asked
 pub mod Commands
-pub mod Stream
-pub mod ReplyText
+pub mod Kept
 pub mod Own
 pub mod Reply
+pub mod ReplyText
+pub mod Solo
 pub mod Step
-pub mod Creates
+pub mod Stream

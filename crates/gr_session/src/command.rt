@@ -1,5 +1,5 @@
 // Commands, and what a reader of them answers.
-use gr_base::Fault;
+use gr_base::{Bytes, Fault};
 use gr_model::TableWish;
 
 /// What a line asks for.
@@ -7,6 +7,18 @@ use gr_model::TableWish;
 pub enum Command {
     /// A new table.
     TableCreate(TableWish),
+    /// Records to be put into a table.
+    Load {
+        /// The table's name.
+        table: Bytes,
+        /// The load data, a JSON text.
+        values: Bytes,
+    },
+    /// The records of a table.
+    Select {
+        /// The table's name.
+        table: Bytes,
+    },
 }
 
 /// What a reader answers when it is asked for the next item.

@@ -32,6 +32,13 @@ fn push_items(items: &mut Vec<u8>, alloc: Global, reader: &mut Reader) -> Result
                     wish.key_type.as_slice(),
                 ],
             )?,
+            Next::Command(Command::Load { table, values }) => push_words(
+                items,
+                &[b"load", table.as_slice(), values.as_slice()],
+            )?,
+            Next::Command(Command::Select { table }) => {
+                push_words(items, &[b"select", table.as_slice()])?
+            }
             Next::Bad(fault) => push_words(
                 items,
                 &[fault.kind.name().as_bytes(), fault.name.as_slice()],
@@ -65,6 +72,7 @@ fn a_text_gives_the_same_items_in_any_pieces(rt: HostRuntime) -> Result<(), Fail
     let mut too_long = vec![in alloc; b' '; 4094]?;
     too_long.extend_from_slice(b"foo\nbar")?;
     let table = "table T TABLE_HASH_KEY ShortText \n";
+    let bad = "BadLine  \n";
     for (text, want) in [
         (b"".as_slice(), ""),
         (b"table_create T TABLE_HASH_KEY ShortText", table),
@@ -75,16 +83,37 @@ fn a_text_gives_the_same_items_in_any_pieces(rt: HostRuntime) -> Result<(), Fail
         ),
         (b"\n \n\t\n", ""),
         (b"foo", "UnknownCommand foo \n"),
-        (b"foo\r", "BadLine  \n"),
+        (b"foo\r", bad),
         (longest.as_slice(), "UnknownCommand foo \n"),
         (too_long.as_slice(), "BadLine  \nUnknownCommand bar \n"),
-        (b"foo \xC8", "BadLine  \n"),
-        (b"table_create", "BadLine  \n"),
-        (b"table_create T TABLE_HASH_KEY", "BadLine  \n"),
-        (b"table_create T TABLE_HASH_KEY ShortText x", "BadLine  \n"),
-        (b"table_create T TABLE_PAT_KEY ShortText", "BadLine  \n"),
-        (b"table_create T TABLE_HASH_KEY Text", "BadLine  \n"),
+        (b"foo \xC8", bad),
+        (b"table_create", bad),
+        (b"table_create T TABLE_HASH_KEY", bad),
+        (b"table_create T TABLE_HASH_KEY ShortText x", bad),
+        (b"table_create T TABLE_PAT_KEY ShortText", bad),
+        (b"table_create T TABLE_HASH_KEY Text", bad),
         (b"# x", "UnknownCommand # \n"),
+        (b"select T", "select T \n"),
+        (b"\tselect  T ", "select T \n"),
+        (b"select", bad),
+        (b"select T U", bad),
+        (
+            b"load --table T --values '[{\"_key\":\"a\"}]'",
+            "load T [{\"_key\":\"a\"}] \n",
+        ),
+        (
+            b" load\t--table T --values \t' [{\"_key\": \"a b\"}\t] ' \t\n",
+            "load T  [{\"_key\": \"a b\"}\t]  \n",
+        ),
+        (b"load --table T --values ''", "load T  \n"),
+        (b"load --table T --values '[]", bad),
+        (b"load --table T --values []", bad),
+        (b"load --table T --values", bad),
+        (b"load --table T --values '[\"\\n\"]'", bad),
+        (b"load --table T --values '[]' x", bad),
+        (b"load --table T --values '[]''", bad),
+        (b"load T --values '[]'", bad),
+        (b"load --values '[]' --table T", bad),
         (
             b"foo\n\n table_create T TABLE_HASH_KEY ShortText\nbar\n",
             "UnknownCommand foo \ntable T TABLE_HASH_KEY ShortText \nUnknownCommand bar \n",

@@ -1,0 +1,86 @@
+// Publishing on one thread.
+ghost use Rattle.std.specs.Prelude.{◌≡◌, [], IfOk};
+ghost use Rattle.std.specs.Arc.{arc_value};
+ghost use Rattle.gr_base.specs.Limits.{IsInRange};
+ghost use Rattle.gr_model.specs.Entry.{HoldsText, IsValid, replay};
+ghost use Rattle.gr_publish.specs.Publish.{AppliesShared, Publishes};
+
+use super::{Published, Root, RootFault};
+use gr_base::{Limits, NoMemory};
+use gr_model::Entry;
+use std::alloc::Global;
+use std::marker::Model;
+use std::sync::Arc;
+
+/// The newest state on one thread, which contracts see as that state.
+#[derive(Drop)]
+pub struct Solo {
+    root: Arc<Root>,
+}
+
+impl Model for Solo {
+    ghost use Rattle.std.specs.Arc.{arc_value};
+    ghost use Rattle.gr_publish.specs.Root.{Rooted};
+
+    ghost Value = { Rooted };
+
+    ghost view = { λ solo. arc_value solo.root };
+}
+
+impl Solo {
+    /// The empty state under these limits.
+    pub fn new(alloc: Global, limits: Limits) -> Result<Solo, NoMemory>
+        requires { IsInRange limits }
+        ensures { IfOk result (λ solo. solo ≡ record { limits = limits; journal = [] }) }
+    {
+        let root = Arc::new(alloc, Root::empty(alloc, limits))?;
+        Ok(Solo { root })
+    }
+
+    /// The newest state, lent.
+    pub fn pin(&self) -> &Arc<Root>
+        ensures { arc_value result.now ≡ self.now }
+    {
+        &self.root
+    }
+
+    /// Publishes an entry, or says why not.
+    pub fn publish(&mut self, alloc: Global, entry: Entry) -> Published
+        requires valid { IsValid (replay self.old.journal) entry.change }
+        requires text { HoldsText entry.change }
+        ensures { Publishes self.old self.new entry result }
+    {
+        let mark = self.root.journal().len();
+        match self.applied(alloc, entry) {
+            Ok(root) => {
+                self.root = root;
+                Published::Published { place: mark }
+            }
+            Err(RootFault::Refused(fault)) => Published::Refused { fault, mark },
+            Err(RootFault::NoMemory) => Published::NoMemory { mark },
+        }
+    }
+
+    // The state after an entry, or why there is none.
+    fn applied(&self, alloc: Global, entry: Entry) -> Result<Arc<Root>, RootFault>
+        requires valid { IsValid (replay self.now.journal) entry.change }
+        requires text { HoldsText entry.change }
+        ensures { AppliesShared self.now entry result }
+    {
+        let Ok(entry) = Arc::new(alloc, entry) else {
+            return Err(RootFault::NoMemory);
+        };
+        let root = self.root.applied(alloc, entry)?;
+        match Arc::new(alloc, root) {
+            Ok(root) => Ok(root),
+            Err(_) => Err(RootFault::NoMemory),
+        }
+    }
+
+    /// The newest state.
+    pub fn close(self) -> Arc<Root>
+        ensures { arc_value result ≡ self }
+    {
+        self.root
+    }
+}

@@ -1,0 +1,16 @@
+use Rattle.std.proofs.Common.{rules, arith, ap, ◌≡◌, ◌++◌, List, ℕ}
+use Rattle.std.proofs.lemmas.Grind.{common_steps}
+use Rattle.json.specs.Print.{escape_byte}
+use Rattle.gr_session.proofs.select.push_escaped.Goals as goal
+
+pub returns-in_ok-extend_from_slice : goal.returns-in_ok-extend_from_slice
+unfolding escape_byte
+returns-in_ok-extend_from_slice c = search rules
+
+pub returns-in_ok-extend_from_slice-2 : goal.returns-in_ok-extend_from_slice-2
+unfolding escape_byte
+returns-in_ok-extend_from_slice-2 c = search rules
+
+pub returns-in_ok-push : goal.returns-in_ok-push
+unfolding escape_byte
+returns-in_ok-push c = search rules

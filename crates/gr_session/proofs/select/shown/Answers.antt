@@ -1,0 +1,18 @@
+use Rattle.std.proofs.Common.{◌≡◌, ◌∙◌, ap, ◌++◌, flat_map, length, take, codes}
+use Rattle.std.specs.Fmt.{decimal}
+use Rattle.gr_publish.specs.Root.{rows_from}
+use Rattle.gr_session.specs.Asked.{row_text}
+use Rattle.gr_session.proofs.Showing.{shown-line}
+use Rattle.gr_session.proofs.select.shown.Goals as goal
+
+pub returns : goal.returns
+returns c =
+    let keys = c.args.keys.now in
+    let written : c.extend_from_slice-2.new.self.items ≡ (((codes "[[0],[[[" ++ decimal (length keys)) ++ codes "],[[\"_id\",\"UInt32\"],[\"_key\",\"ShortText\"]]") ++ flat_map row_text (rows_from 1 (take 10 keys))) ++ codes "]]]\n" =
+    c.in_ok-extend_from_slice-2.ensures.items
+    ∙ ap (λ line. line ++ codes "]]]\n")
+    (rw c.first_ten.ensures at c.in_ok-push_rows.ensures
+    ∙ ap (λ line. line ++ flat_map row_text (rows_from 1 (take 10 keys)))
+    (c.in_ok-extend_from_slice.ensures.items
+    ∙ ap (λ line. line ++ codes "],[[\"_id\",\"UInt32\"],[\"_key\",\"ShortText\"]]") (c.in_ok-push_number.ensures ∙ ap (λ line. line ++ decimal (length keys)) c.in_ok-line.ensures.items))) in
+    rw (← shown-line keys c.extend_from_slice-2.new.self.items written) c.from_vec.ensures

@@ -1,0 +1,231 @@
+// Commands on one thread: their replies, byte for byte, and the lengths of the journal between which they stand.
+ghost use Rattle.std.specs.Prelude.{◌≡◌, ◌≤◌, ◌<◌, false, length, IfOk, IsUtf8, OnSome};
+ghost use Rattle.gr_base.specs.Limits.{IsInRange};
+ghost use Rattle.gr_session.specs.Commands.{IsItem};
+
+use super::super::{Command, Next, Session};
+use super::step_solo;
+use gr_base::{Bytes, Fault, FaultKind, Limits, NoMemory, SessionNo};
+use gr_model::TableWish;
+use gr_publish::Solo;
+use std::alloc::Global;
+use std::process::Abort;
+use std::test::Fail;
+
+// A text of its own.
+fn text(alloc: Global, text: &str) -> Result<Bytes, NoMemory>
+    ensures { IfOk result IsUtf8 }
+{
+    Bytes::from_string(alloc, String::from_str(alloc, text)?)
+}
+
+// The command of this name, or the refusal of one that is none.
+fn item(alloc: Global, command: &str, table: &str, values: &str) -> Result<Next, NoMemory>
+    ensures { IfOk result IsItem }
+{
+    let table = text(alloc, table)?;
+    if command == "load" {
+        let values = text(alloc, values)?;
+        return Ok(Next::Command(Command::Load { table, values }));
+    }
+    if command == "select" {
+        return Ok(Next::Command(Command::Select { table }));
+    }
+    if command != "table_create" {
+        let command = text(alloc, command)?;
+        return Ok(Next::Bad(Fault::named(FaultKind::UnknownCommand, command)));
+    }
+    Ok(Next::Command(Command::TableCreate(TableWish {
+        name: table,
+        flags: text(alloc, "TABLE_HASH_KEY")?,
+        key_type: text(alloc, "ShortText")?,
+        tokenizer: text(alloc, "")?,
+    })))
+}
+
+fn running(session: &Session) -> Option<()>
+    ensures { OnSome result (session.now.ended ≡ false) }
+{
+    if session.ended() { None } else { Some(()) }
+}
+
+fn within(solo: &Solo, mark: u64) -> Option<()>
+    ensures { OnSome result (mark ≤ length solo.now.journal) }
+{
+    if solo.pin().journal().len() < mark {
+        None
+    } else {
+        Some(())
+    }
+}
+
+// Runs commands one after another, each given as its name, its table and its values, then its reply and its two places.
+fn run(
+    rt: &impl Abort,
+    alloc: Global,
+    limits: Limits,
+    cases: &[(&str, &str, &str, &str, u64, u64)],
+) -> Result<(), Fail>
+    requires limits { IsInRange limits }
+    requires few { length cases.now < 100 }
+{
+    let mut solo = Solo::new(alloc, limits)?;
+    let mut session = Session::open(alloc, SessionNo(1), limits, 0)?;
+    for (command, table, values, reply, from, mark) in cases {
+        running(&session).ok_or("the session has ended")?;
+        let next = item(alloc, command, table, values)?;
+        let done = step_solo(alloc, &mut session, &mut solo, next);
+        within(&solo, done.mark).ok_or("the mark is beyond the journal")?;
+        assert_eq!(rt;
+            done.text.as_slice(),
+            reply.as_bytes(),
+            "for {command} {table}"
+        );
+        assert_eq!(rt;
+            (done.from, done.mark),
+            (*from, *mark),
+            "for {command} {table}"
+        );
+    }
+    Ok(())
+}
+
+#[test]
+fn each_command_has_its_reply_and_its_places(rt: HostRuntime) -> Result<(), Fail> {
+    let limits = Limits::default();
+    let cases = [
+        ("foo", "", "", "[[4,\"UnknownCommand foo\"],false]\n", 0, 0),
+        ("table_create", "T", "", "[[0],true]\n", 0, 1),
+        (
+            "table_create",
+            "T",
+            "",
+            "[[10,\"NameTaken T\"],false]\n",
+            1,
+            1,
+        ),
+        (
+            "table_create",
+            "a\"b\\c",
+            "",
+            "[[9,\"BadName a\\\"b\\\\c\"],false]\n",
+            1,
+            1,
+        ),
+        (
+            "load",
+            "T",
+            "[{\"_key\":\"a\"},{\"_key\":\"b\"},{\"_key\":\"a\"}]",
+            "[[0],3]\n",
+            1,
+            4,
+        ),
+        (
+            "select",
+            "T",
+            "",
+            "[[0],[[[2],[[\"_id\",\"UInt32\"],[\"_key\",\"ShortText\"]],[1,\"a\"],[2,\"b\"]]]]\n",
+            4,
+            4,
+        ),
+        (
+            "load",
+            "T",
+            "[{\"_key\":\"c\"},3,{\"_key\":\"d\"}]",
+            "[[21,\"BadRow row 2\"],1]\n",
+            4,
+            5,
+        ),
+        (
+            "select",
+            "T",
+            "",
+            "[[0],[[[3],[[\"_id\",\"UInt32\"],[\"_key\",\"ShortText\"]],[1,\"a\"],[2,\"b\"],[3,\"c\"]]]]\n",
+            5,
+            5,
+        ),
+        (
+            "load",
+            "Nope",
+            "[]",
+            "[[11,\"NoSuchTable Nope\"],0]\n",
+            5,
+            5,
+        ),
+        (
+            "select",
+            "Nope",
+            "",
+            "[[11,\"NoSuchTable Nope\"],false]\n",
+            5,
+            5,
+        ),
+        ("load", "T", "[]", "[[0],0]\n", 5, 5),
+    ];
+    run(&rt, rt.alloc(), limits, &cases)
+}
+
+#[test]
+fn a_select_shows_ten_records_with_their_keys_escaped(rt: HostRuntime) -> Result<(), Fail> {
+    let limits = Limits::default();
+    let cases = [
+        ("table_create", "T", "", "[[0],true]\n", 0, 1),
+        (
+            "load",
+            "T",
+            "[{\"_key\":\"\\\"\\\\\\n\\u0001é\"},{\"_key\":\"2\"},{\"_key\":\"3\"},{\"_key\":\"4\"},{\"_key\":\"5\"},{\"_key\":\"6\"},{\"_key\":\"7\"},{\"_key\":\"8\"},{\"_key\":\"9\"},{\"_key\":\"10\"},{\"_key\":\"11\"}]",
+            "[[0],11]\n",
+            1,
+            12,
+        ),
+        (
+            "select",
+            "T",
+            "",
+            "[[0],[[[11],[[\"_id\",\"UInt32\"],[\"_key\",\"ShortText\"]],[1,\"\\\"\\\\\\n\\u0001é\"],[2,\"2\"],[3,\"3\"],[4,\"4\"],[5,\"5\"],[6,\"6\"],[7,\"7\"],[8,\"8\"],[9,\"9\"],[10,\"10\"]]]]\n",
+            12,
+            12,
+        ),
+    ];
+    run(&rt, rt.alloc(), limits, &cases)
+}
+
+#[test]
+fn a_full_table_stops_a_load(rt: HostRuntime) -> Result<(), Fail> {
+    let limits = Limits {
+        records: 2,
+        ..Limits::default()
+    };
+    let cases = [
+        ("table_create", "T", "", "[[0],true]\n", 0, 1),
+        (
+            "load",
+            "T",
+            "[{\"_key\":\"a\"},{\"_key\":\"b\"},{\"_key\":\"c\"},{\"_key\":\"a\"}]",
+            "[[34,\"TableFull row 3 T\"],2]\n",
+            1,
+            3,
+        ),
+    ];
+    run(&rt, rt.alloc(), limits, &cases)
+}
+
+#[test]
+fn a_full_journal_refuses_a_table(rt: HostRuntime) -> Result<(), Fail> {
+    let limits = Limits {
+        journal: 1,
+        ..Limits::default()
+    };
+    let cases = [
+        ("table_create", "T", "", "[[0],true]\n", 0, 1),
+        (
+            "table_create",
+            "U",
+            "",
+            "[[35,\"JournalFull\"],false]\n",
+            1,
+            1,
+        ),
+    ];
+    run(&rt, rt.alloc(), limits, &cases)
+}
