@@ -1,16 +1,44 @@
 // Commands on one thread: their replies, byte for byte, and the lengths of the journal between which they stand.
-ghost use Rattle.std.specs.Prelude.{◌≡◌, ◌≤◌, ◌<◌, false, length, IfOk, IsUtf8, OnSome};
+ghost use Rattle.std.specs.Prelude.{◌≡◌, ◌+◌, ◌-◌, ◌^◌, ◌≤◌, ◌<◌, None, false, length, IfOk, IsUtf8, OnOk, OnSome};
 ghost use Rattle.gr_base.specs.Limits.{IsInRange};
 ghost use Rattle.gr_session.specs.Commands.{IsItem};
 
-use super::super::{Command, Next, Session};
+use super::super::{Command, Done, Next, Session};
 use super::step_solo;
 use gr_base::{Bytes, Fault, FaultKind, Limits, NoMemory, SessionNo};
 use gr_model::TableWish;
 use gr_publish::Solo;
 use std::alloc::Global;
-use std::process::Abort;
 use std::test::Fail;
+
+// A command by its name, its table and its values, and what it must answer: its reply and its two places.
+#[derive(Drop)]
+struct Case {
+    command: &'static str,
+    table: &'static str,
+    values: &'static str,
+    reply: &'static str,
+    from: u64,
+    mark: u64,
+}
+
+fn told(
+    command: &'static str,
+    table: &'static str,
+    values: &'static str,
+    reply: &'static str,
+    from: u64,
+    mark: u64,
+) -> Case {
+    Case {
+        command,
+        table,
+        values,
+        reply,
+        from,
+        mark,
+    }
+}
 
 // A text of its own.
 fn text(alloc: Global, text: &str) -> Result<Bytes, NoMemory>
@@ -59,44 +87,56 @@ fn within(solo: &Solo, mark: u64) -> Option<()>
     }
 }
 
-// Runs commands one after another, each given as its name, its table and its values, then its reply and its two places.
-fn run(
-    rt: &impl Abort,
-    alloc: Global,
-    limits: Limits,
-    cases: &[(&str, &str, &str, &str, u64, u64)],
-) -> Result<(), Fail>
+// Runs one command, where the session still runs.
+fn step(alloc: Global, session: &mut Session, solo: &mut Solo, case: &Case) -> Result<Done, Fail>
+    requires idle { session.old.going ≡ None }
+    requires countable { session.old.command < 2 ^ 64 - 1 }
+    requires behind { session.old.mark ≤ length solo.old.journal }
+    requires limits { session.old.limits ≡ solo.old.limits }
+    ensures idle { OnOk result (session.new.going ≡ None) }
+    ensures command { OnOk result (session.new.command ≡ session.old.command + 1) }
+    ensures behind { OnOk result (session.new.mark ≤ length solo.new.journal) }
+    ensures limits { OnOk result (session.new.limits ≡ solo.new.limits) }
+{
+    running(session).ok_or("the session has ended")?;
+    let next = item(alloc, case.command, case.table, case.values)?;
+    let done = step_solo(alloc, session, solo, next);
+    within(solo, done.mark).ok_or("the mark is beyond the journal")?;
+    Ok(done)
+}
+
+// Whether a command has answered so.
+fn is_told(case: &Case, done: &Done) -> bool {
+    done.text.as_slice() == case.reply.as_bytes()
+        && done.from == case.from
+        && done.mark == case.mark
+}
+
+// How many commands, run one after another, answer as they must, up to the first that does not.
+fn count_told(alloc: Global, limits: Limits, cases: &[Case]) -> Result<usize, Fail>
     requires limits { IsInRange limits }
     requires few { length cases.now < 100 }
 {
     let mut solo = Solo::new(alloc, limits)?;
     let mut session = Session::open(alloc, SessionNo(1), limits, 0)?;
-    for (command, table, values, reply, from, mark) in cases {
-        running(&session).ok_or("the session has ended")?;
-        let next = item(alloc, command, table, values)?;
-        let done = step_solo(alloc, &mut session, &mut solo, next);
-        within(&solo, done.mark).ok_or("the mark is beyond the journal")?;
-        assert_eq!(rt;
-            done.text.as_slice(),
-            reply.as_bytes(),
-            "for {command} {table}"
-        );
-        assert_eq!(rt;
-            (done.from, done.mark),
-            (*from, *mark),
-            "for {command} {table}"
-        );
+    let mut told = 0;
+    for case in cases {
+        let done = step(alloc, &mut session, &mut solo, case)?;
+        if !is_told(case, &done) {
+            return Ok(told);
+        }
+        told += 1;
     }
-    Ok(())
+    Ok(told)
 }
 
 #[test]
 fn each_command_has_its_reply_and_its_places(rt: HostRuntime) -> Result<(), Fail> {
     let limits = Limits::default();
     let cases = [
-        ("foo", "", "", "[[4,\"UnknownCommand foo\"],false]\n", 0, 0),
-        ("table_create", "T", "", "[[0],true]\n", 0, 1),
-        (
+        told("foo", "", "", "[[4,\"UnknownCommand foo\"],false]\n", 0, 0),
+        told("table_create", "T", "", "[[0],true]\n", 0, 1),
+        told(
             "table_create",
             "T",
             "",
@@ -104,7 +144,7 @@ fn each_command_has_its_reply_and_its_places(rt: HostRuntime) -> Result<(), Fail
             1,
             1,
         ),
-        (
+        told(
             "table_create",
             "a\"b\\c",
             "",
@@ -112,7 +152,7 @@ fn each_command_has_its_reply_and_its_places(rt: HostRuntime) -> Result<(), Fail
             1,
             1,
         ),
-        (
+        told(
             "load",
             "T",
             "[{\"_key\":\"a\"},{\"_key\":\"b\"},{\"_key\":\"a\"}]",
@@ -120,7 +160,7 @@ fn each_command_has_its_reply_and_its_places(rt: HostRuntime) -> Result<(), Fail
             1,
             4,
         ),
-        (
+        told(
             "select",
             "T",
             "",
@@ -128,7 +168,7 @@ fn each_command_has_its_reply_and_its_places(rt: HostRuntime) -> Result<(), Fail
             4,
             4,
         ),
-        (
+        told(
             "load",
             "T",
             "[{\"_key\":\"c\"},3,{\"_key\":\"d\"}]",
@@ -136,7 +176,7 @@ fn each_command_has_its_reply_and_its_places(rt: HostRuntime) -> Result<(), Fail
             4,
             5,
         ),
-        (
+        told(
             "select",
             "T",
             "",
@@ -144,7 +184,7 @@ fn each_command_has_its_reply_and_its_places(rt: HostRuntime) -> Result<(), Fail
             5,
             5,
         ),
-        (
+        told(
             "load",
             "Nope",
             "[]",
@@ -152,7 +192,7 @@ fn each_command_has_its_reply_and_its_places(rt: HostRuntime) -> Result<(), Fail
             5,
             5,
         ),
-        (
+        told(
             "select",
             "Nope",
             "",
@@ -160,17 +200,18 @@ fn each_command_has_its_reply_and_its_places(rt: HostRuntime) -> Result<(), Fail
             5,
             5,
         ),
-        ("load", "T", "[]", "[[0],0]\n", 5, 5),
+        told("load", "T", "[]", "[[0],0]\n", 5, 5),
     ];
-    run(&rt, rt.alloc(), limits, &cases)
+    assert_eq!(rt; count_told(rt.alloc(), limits, &cases)?, cases.len());
+    Ok(())
 }
 
 #[test]
 fn a_select_shows_ten_records_with_their_keys_escaped(rt: HostRuntime) -> Result<(), Fail> {
     let limits = Limits::default();
     let cases = [
-        ("table_create", "T", "", "[[0],true]\n", 0, 1),
-        (
+        told("table_create", "T", "", "[[0],true]\n", 0, 1),
+        told(
             "load",
             "T",
             "[{\"_key\":\"\\\"\\\\\\n\\u0001é\"},{\"_key\":\"2\"},{\"_key\":\"3\"},{\"_key\":\"4\"},{\"_key\":\"5\"},{\"_key\":\"6\"},{\"_key\":\"7\"},{\"_key\":\"8\"},{\"_key\":\"9\"},{\"_key\":\"10\"},{\"_key\":\"11\"}]",
@@ -178,7 +219,7 @@ fn a_select_shows_ten_records_with_their_keys_escaped(rt: HostRuntime) -> Result
             1,
             12,
         ),
-        (
+        told(
             "select",
             "T",
             "",
@@ -187,7 +228,8 @@ fn a_select_shows_ten_records_with_their_keys_escaped(rt: HostRuntime) -> Result
             12,
         ),
     ];
-    run(&rt, rt.alloc(), limits, &cases)
+    assert_eq!(rt; count_told(rt.alloc(), limits, &cases)?, cases.len());
+    Ok(())
 }
 
 #[test]
@@ -197,8 +239,8 @@ fn a_full_table_stops_a_load(rt: HostRuntime) -> Result<(), Fail> {
         ..Limits::default()
     };
     let cases = [
-        ("table_create", "T", "", "[[0],true]\n", 0, 1),
-        (
+        told("table_create", "T", "", "[[0],true]\n", 0, 1),
+        told(
             "load",
             "T",
             "[{\"_key\":\"a\"},{\"_key\":\"b\"},{\"_key\":\"c\"},{\"_key\":\"a\"}]",
@@ -207,7 +249,8 @@ fn a_full_table_stops_a_load(rt: HostRuntime) -> Result<(), Fail> {
             3,
         ),
     ];
-    run(&rt, rt.alloc(), limits, &cases)
+    assert_eq!(rt; count_told(rt.alloc(), limits, &cases)?, cases.len());
+    Ok(())
 }
 
 #[test]
@@ -217,8 +260,8 @@ fn a_full_journal_refuses_a_table(rt: HostRuntime) -> Result<(), Fail> {
         ..Limits::default()
     };
     let cases = [
-        ("table_create", "T", "", "[[0],true]\n", 0, 1),
-        (
+        told("table_create", "T", "", "[[0],true]\n", 0, 1),
+        told(
             "table_create",
             "U",
             "",
@@ -227,5 +270,6 @@ fn a_full_journal_refuses_a_table(rt: HostRuntime) -> Result<(), Fail> {
             1,
         ),
     ];
-    run(&rt, rt.alloc(), limits, &cases)
+    assert_eq!(rt; count_told(rt.alloc(), limits, &cases)?, cases.len());
+    Ok(())
 }
