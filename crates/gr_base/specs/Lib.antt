@@ -2,3 +2,4 @@ pub mod Name
 pub mod Fault
 pub mod Limits
 pub mod Compare
+pub mod Keys

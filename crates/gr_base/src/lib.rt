@@ -4,6 +4,7 @@
 mod bytes;
 mod compare;
 mod fault;
+mod key_table;
 mod list;
 mod memory;
 mod name;
@@ -14,7 +15,8 @@ mod tests;
 pub use bytes::Bytes;
 pub use compare::Cmp;
 pub use fault::{Fault, FaultKind, fault_text};
-pub use list::{Ids, ListOf, Texts};
+pub use key_table::KeyTable;
+pub use list::{Ids, Ints, ListOf, Texts};
 pub use memory::NoMemory;
 pub use name::is_name;
 pub use numbers::{ColumnNo, Limits, RecordId, SessionNo, TableNo};

@@ -13,6 +13,9 @@ pub struct ListOf<T> {
 /// A list of record ids.
 pub type Ids = ListOf<RecordId>;
 
+/// A list of whole numbers.
+pub type Ints = ListOf<i128>;
+
 /// A list of texts.
 pub type Texts = ListOf<Bytes>;
 

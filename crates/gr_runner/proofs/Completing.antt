@@ -1,5 +1,5 @@
 -- Where nothing outside can fail, a run that is not Ok found no memory.
-use Rattle.std.proofs.Common.{◌≡◌, ℕ, ◌+◌, ◌<◌, ◌≤◌, ◌++◌, ◌⊎◌, Option, Some, None, IfSome, List, [], ◌∷◌, length, take, zero, suc, inl, inr, refl, sym, subst, ap, ◌∙◌, arith, true}
+use Rattle.std.proofs.Common.{◌≡◌, ℕ, ◌+◌, ◌⊎◌, Option, Some, None, IfSome, List, [], ◌∷◌, length, take, zero, suc, inl, inr, refl, sym, subst, ap, ◌∙◌, arith, true}
 use Rattle.std.proofs.lemmas.List.{take_all}
 use Rattle.std.specs.List.{AllByRecursion}
 use Rattle.gr_base.specs.declared.numbers.Limits.{Limits}
@@ -7,12 +7,12 @@ use Rattle.gr_model.specs.declared.entry.Entry.{Entry}
 use Rattle.gr_session.specs.Commands.{commands}
 use Rattle.gr_session.specs.declared.command.Next.{Next}
 use Rattle.gr_session.specs.declared.session.Done.{Done}
-use Rattle.gr_runner.specs.Complete.{AllReply, AreAnswered, Completes, IsAnswered, IsCompleteMain, IsCompleteRun, IsSteady}
+use Rattle.gr_runner.specs.Complete.{AllReply, AreAnswered, IsAnswered, IsCompleteMain, IsCompleteRun, IsSteady}
 use Rattle.gr_runner.proofs.Lists.{all_append, all_at, all_split}
-use Rattle.gr_runner.specs.History.{AllHold, History, sources_of}
+use Rattle.gr_runner.specs.History.{AllHold, sources_of}
 use Rattle.gr_runner.specs.Main.{IsNotOpened, IsRun}
 use Rattle.gr_runner.specs.Reported.{journal_of}
-use Rattle.gr_runner.specs.Run.{IsCause, Run, end_or, first_unfinished}
+use Rattle.gr_runner.specs.Run.{IsCause, Run, first_unfinished}
 use Rattle.gr_runner.specs.Sessions.{Holds, Replies}
 use Rattle.gr_runner.specs.Sources.{IsTold, ReadTo}
 use Rattle.gr_runner.specs.declared.report.End.{End}

@@ -1,5 +1,5 @@
 -- What is promised where nothing outside can fail.
-use Rattle.std.specs.Prelude.{ℕ, ◌≡◌, ◌+◌, ◌≤◌, ◌⊎◌, Option, Some, List, [], ◌∷◌, length, true, take}
+use Rattle.std.specs.Prelude.{ℕ, ◌≡◌, ◌+◌, ◌≤◌, ◌⊎◌, Option, Some, List, [], ◌∷◌, length, true}
 use Rattle.std.specs.List.{AllByRecursion}
 use Rattle.gr_base.specs.declared.numbers.Limits.{Limits}
 use Rattle.gr_model.specs.declared.entry.Entry.{Entry}
@@ -11,7 +11,6 @@ use Rattle.gr_runner.specs.History.{sources_of}
 use Rattle.gr_runner.specs.Reported.{journal_of}
 use Rattle.gr_runner.specs.declared.report.Report.{Report}
 use Rattle.gr_runner.specs.declared.report.SessionLog.{SessionLog}
-use Rattle.gr_runner.specs.declared.status.Status.{Status}
 use Rattle.gr_runner.specs.declared.status.Status.TheVariants.{Ok, NoMemory}
 
 -- a source that told its bytes, which are within the limit, and that can reach no count of faults above the one it began with

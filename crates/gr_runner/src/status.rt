@@ -1,6 +1,6 @@
 // How a run ended, as its process says it.
-ghost use Rattle.std.specs.Prelude.{◌≡◌};
-ghost use Rattle.gr_runner.specs.Status.{exit_code};
+ghost use Rattle.std.specs.Prelude.{◌≡◌, None, Some, MatchOption};
+ghost use Rattle.gr_runner.specs.Status.{exit_code, message_of};
 
 /// How a run ended.
 #[derive(Clone, Copy, Debug, PartialEq, Eq)]
@@ -30,7 +30,9 @@ impl Status {
     }
 
     /// What the process says on standard error, where it says anything.
-    pub fn message(self) -> Option<&'static str> {
+    pub fn message(self) -> Option<&'static str>
+        ensures { MatchOption result (message_of self ≡ None) (λ text. message_of self ≡ Some text.now) }
+    {
         match self {
             Status::Ok => None,
             Status::Usage => Some("usage: groonga-run FILE"),

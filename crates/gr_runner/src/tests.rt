@@ -110,6 +110,26 @@ fn each_command_has_its_reply_however_its_bytes_come(rt: HostRuntime) -> Result<
 }
 
 #[test]
+fn loads_and_selects_are_answered_however_their_bytes_come(rt: HostRuntime) -> Result<(), Fail> {
+    let alloc = rt.alloc();
+    for (text, want) in [
+        (
+            "table_create T TABLE_HASH_KEY ShortText\nload --table T --values '[{\"_key\":\"a\"},{\"_key\":\"b\"}]'\nselect T\n",
+            "[[0],true]\n[[0],2]\n[[0],[[[2],[[\"_id\",\"UInt32\"],[\"_key\",\"ShortText\"]],[1,\"a\"],[2,\"b\"]]]]\n",
+        ),
+        (
+            "select Nope\ntable_create T TABLE_HASH_KEY ShortText\nload --table T --values '{}'\nload --table T --values '[3]'\nload --table T --values '[{\"_key\":\"\"}]'\nload --table T --values '[{\"_key\":\"a\",\"zzz\":1}]'\nload --table T --values '[{\"_key\":7}]'\n",
+            "[[11,\"NoSuchTable Nope\"],false]\n[[0],true]\n[[20,\"BadJson\"],0]\n[[21,\"BadRow row 1\"],0]\n[[23,\"EmptyKey row 1\"],0]\n[[12,\"NoSuchColumn row 1 zzz\"],0]\n[[16,\"BadValue row 1 _key\"],0]\n",
+        ),
+    ] {
+        assert!(rt; replies(alloc, text, want, 1)?);
+        assert!(rt; replies(alloc, text, want, 3)?);
+        assert!(rt; replies(alloc, text, want, ALL)?);
+    }
+    Ok(())
+}
+
+#[test]
 fn a_failing_outside_ends_the_run_with_its_status(rt: HostRuntime) -> Result<(), Fail> {
     let alloc = rt.alloc();
     let reply = "[[0],true]\n";

@@ -1,5 +1,5 @@
 -- What the last step of a command makes of its reply.
-use Rattle.std.proofs.Common.{◌≡◌, ℕ, ◌+◌, ◌≤◌, Bool, false, Option, Some, IfSome, List, [], ◌++◌, length, inl, inr, sym, ap, subst, ◌∙◌, arith}
+use Rattle.std.proofs.Common.{◌≡◌, ℕ, ◌+◌, ◌≤◌, Bool, false, Option, Some, IfSome, List, [], length, inl, inr, sym, ap, subst, ◌∙◌, arith}
 use Rattle.std.proofs.lemmas.List.{take_at}
 use Rattle.gr_base.specs.declared.fault.Fault.{Fault}
 use Rattle.gr_model.specs.Entry.{replay}

@@ -1,13 +1,12 @@
 -- A command's own entries in a journal that grows, and what its reply means there.
-use Rattle.std.proofs.Common.{◌≡◌, ℕ, ◌+◌, ◌≤◌, false, if◌then◌else◌, List, [], ◌∷◌, ◌++◌, length, take, map, Some, ◌⊎◌, inl, inr, refl, sym, ap, ◌∙◌, arith, add-zero, append-nil, append_assoc, length-append}
+use Rattle.std.proofs.Common.{◌≡◌, ℕ, ◌+◌, ◌≤◌, false, if◌then◌else◌, List, [], ◌∷◌, ◌++◌, length, take, ◌⊎◌, inl, inr, refl, sym, ap, ◌∙◌, arith, add-zero, append-nil, append_assoc, length-append}
 use Rattle.std.proofs.lemmas.List.{take-append-le}
-use Rattle.std.specs.List.{AllByRecursion, slice_get}
+use Rattle.std.specs.List.{AllByRecursion}
 use Rattle.gr_base.specs.declared.numbers.Limits.{Limits}
-use Rattle.gr_model.specs.Entry.{fault_of, replay}
+use Rattle.gr_model.specs.Entry.{replay}
 use Rattle.gr_model.specs.declared.entry.Entry.{Entry}
-use Rattle.gr_session.specs.Asked.{changes_of, closing_line, entries_of}
 use Rattle.gr_session.specs.Own.{is_own, own, own_from}
-use Rattle.gr_session.specs.Reply.{IsStarved, IsStopped, IsWhole, OwnsFirst, Reply, after_last, read_at}
+use Rattle.gr_session.specs.Reply.{IsStarved, IsStopped, IsWhole, OwnsFirst, Reply, read_at}
 use Rattle.gr_session.specs.declared.command.Next.{Next}
 use Rattle.gr_session.specs.declared.session.Done.{Done}
 

@@ -1,9 +1,7 @@
 -- What a command has made so far on one thread.
-use Rattle.std.proofs.Common.{◌≡◌, ℕ, ◌+◌, ◌-◌, ◌<◌, ◌≤◌, Bool, true, false, MatchBool, Option, Some, None, IfSome, List, [], ◌∷◌, ◌++◌, suc, length, take, refl, sym, ap, subst, ◌∙◌, arith, append-nil, append_assoc, length-append}
+use Rattle.std.proofs.Common.{◌≡◌, ℕ, ◌+◌, ◌-◌, ◌<◌, Bool, true, false, MatchBool, Option, Some, None, IfSome, List, [], ◌∷◌, ◌++◌, suc, length, take, refl, sym, ap, subst, ◌∙◌, arith, append-nil, append_assoc, length-append}
 use Rattle.std.proofs.lemmas.List.{length_push, take_all}
 use Rattle.std.proofs.lemmas.Option.{slice_get_within}
-use Rattle.gr_base.specs.declared.fault.Fault.{Fault}
-use Rattle.gr_base.specs.declared.numbers.Limits.{Limits}
 use Rattle.gr_model.specs.Accepted.{IsAccepted}
 use Rattle.gr_model.specs.Entry.{IsValid, fault_of, replay}
 use Rattle.gr_model.specs.declared.entry.Entry.{Entry}
@@ -11,11 +9,11 @@ use Rattle.gr_publish.specs.Publish.{Publishes}
 use Rattle.gr_publish.specs.Root.{Rooted}
 use Rattle.gr_publish.specs.declared.published.Published.{Published as Answer}
 use Rattle.gr_publish.specs.declared.published.Published.TheVariants.{Published, Refused, NoMemory}
-use Rattle.gr_session.specs.Asked.{changes_of, entries_of, entry_of}
+use Rattle.gr_session.specs.Asked.{changes_of, entries_of}
 use Rattle.gr_session.specs.Own.{own}
 use Rattle.gr_session.specs.Reply.{IsStarved, OwnsFirst, Reply, after_last, read_at}
 use Rattle.gr_session.specs.Solo.{Steps}
-use Rattle.gr_session.specs.Step.{AsksNext, BeginsWith, Ends, Going, GoesOn, HoldsAfterLast, HoldsWhereRefused, Standing, begun, going_on, made_at}
+use Rattle.gr_session.specs.Step.{AsksNext, BeginsWith, Ends, Going, GoesOn, HoldsAfterLast, HoldsWhereRefused, Standing, going_on, made_at}
 use Rattle.gr_session.specs.declared.command.Next.{Next}
 use Rattle.gr_session.specs.declared.session.Done.{Done}
 use Rattle.gr_session.specs.declared.session.Step.{Step}

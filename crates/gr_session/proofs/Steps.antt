@@ -1,9 +1,9 @@
 -- What a reader of commands gives, from the line that stands first.
-use Rattle.std.proofs.Common.{◌≡◌, ℕ, ◌+◌, ◌<◌, ◌≤◌, ◌⊎◌, Bool, true, false, List, [], ◌∷◌, ◌++◌, Option, Some, None, length, take, drop, option_to_list, cond, refl, sym, ap, subst, ◌∙◌, inl, inr, ⊎_elim, append_assoc, arith}
+use Rattle.std.proofs.Common.{◌≡◌, ℕ, ◌+◌, ◌<◌, ◌≤◌, ◌⊎◌, Bool, true, false, List, [], ◌∷◌, ◌++◌, Some, None, length, take, drop, option_to_list, refl, sym, ap, ◌∙◌, inl, inr, ⊎_elim, append_assoc, arith}
 use Rattle.std.proofs.lemmas.List.{append-nil, take-append-drop, take_all, length-drop}
 use Rattle.memchr.specs.Find.{IsFirstByte, is_byte}
-use Rattle.gr_session.specs.Commands.{IsItem, commands, is_line_end, item_of_line}
-use Rattle.gr_session.specs.Stream.{Gives, GivesItem, IsDrained, IsSameLeft, StandsFirst, Stream, left}
+use Rattle.gr_session.specs.Commands.{IsItem, commands, item_of_line}
+use Rattle.gr_session.specs.Stream.{Gives, GivesItem, IsSameLeft, StandsFirst, Stream, left}
 use Rattle.gr_session.specs.declared.command.Next.{Next}
 use Rattle.gr_session.specs.declared.command.Next.TheVariants.{Command as Asked, Bad, NeedMore, End, NoMemory}
 use Rattle.gr_session.proofs.Found.{IsOpen, IsOpen-none, IsOpen-some, drop-found}

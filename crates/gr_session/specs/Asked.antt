@@ -1,5 +1,5 @@
 -- What a command asks for at a database, and what it answers.
-use Rattle.std.specs.Prelude.{ℕ, ◌+◌, Bool, Option, Some, None, List, [], ◌∷◌, ◌++◌, length, map, take, codes}
+use Rattle.std.specs.Prelude.{ℕ, ◌+◌, Option, Some, None, List, [], ◌∷◌, ◌++◌, length, map, take, codes}
 use Rattle.std.specs.Fmt.{decimal}
 use Rattle.std.specs.List.{find, flat_map}
 use Rattle.json.specs.Print.{quoted}
@@ -12,7 +12,6 @@ use Rattle.gr_model.specs.declared.entry.Change.{Change}
 use Rattle.gr_model.specs.declared.entry.Change.TheVariants.{CreateTable, Put}
 use Rattle.gr_model.specs.declared.entry.Entry.{Entry}
 use Rattle.gr_session.specs.ReplyText.{refusal_line, success_line}
-use Rattle.gr_session.specs.declared.command.Command.{Command}
 use Rattle.gr_session.specs.declared.command.Command.TheVariants.{TableCreate, Load, Select}
 use Rattle.gr_session.specs.declared.command.Next.{Next}
 use Rattle.gr_session.specs.declared.command.Next.TheVariants.{Command as Asked, Bad, NeedMore, End, NoMemory}

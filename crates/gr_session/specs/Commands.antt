@@ -1,4 +1,4 @@
--- Which commands a text asks for: one a line, as `table_create NAME TABLE_HASH_KEY ShortText`.
+-- Which commands a text asks for, one a line.
 use Rattle.std.specs.Prelude.{ℕ, ◌==◌, ◌&&◌, ◌||◌, nat_le, nat_lt, Bool, if◌then◌else◌, Option, Some, None, option_to_list, List, [], ◌∷◌, ◌++◌, length, filter, codes, IsUtf8}
 use Rattle.std.specs.Int.{is_in_range}
 use Rattle.std.specs.List.{list_all, slice_split}
@@ -6,7 +6,6 @@ use Rattle.std.specs.Option.{option_map}
 use Rattle.gr_base.specs.Fault.{fault_named}
 use Rattle.gr_base.specs.declared.fault.FaultKind.TheVariants.{BadLine, UnknownCommand}
 use Rattle.gr_model.specs.Db.{is_same_text}
-use Rattle.gr_session.specs.declared.command.Command.{Command}
 use Rattle.gr_session.specs.declared.command.Command.TheVariants.{TableCreate, Load, Select}
 use Rattle.gr_session.specs.declared.command.Next.{Next}
 use Rattle.gr_session.specs.declared.command.Next.TheVariants.{Command as Asked, Bad, NeedMore, End, NoMemory}

@@ -1,5 +1,5 @@
 -- What one command does on one thread, to its session and to the newest state.
-use Rattle.std.specs.Prelude.{ℕ, ◌≡◌, ◌+◌, true, MatchBool, None, List, [], ◌++◌, length}
+use Rattle.std.specs.Prelude.{◌≡◌, ◌+◌, true, MatchBool, None, List, [], ◌++◌, length}
 use Rattle.std.specs.List.{AllByRecursion}
 use Rattle.gr_model.specs.Accepted.{IsAccepted}
 use Rattle.gr_model.specs.declared.entry.Entry.{Entry}

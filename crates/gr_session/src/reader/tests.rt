@@ -64,8 +64,17 @@ fn items(alloc: Global, text: &[u8], size: usize) -> Result<Vec<u8>, NoMemory>
     Ok(items)
 }
 
+// Whether a text has these items when it is fed whole, byte by byte, and three bytes at a time.
+fn gives(alloc: Global, text: &[u8], want: &str) -> Result<bool, NoMemory> {
+    Ok(
+        items(alloc, text, 8192)?.as_slice() == want.as_bytes()
+            && items(alloc, text, 1)?.as_slice() == want.as_bytes()
+            && items(alloc, text, 3)?.as_slice() == want.as_bytes(),
+    )
+}
+
 #[test]
-fn a_text_gives_the_same_items_in_any_pieces(rt: HostRuntime) -> Result<(), Fail> {
+fn a_line_gives_its_words_or_its_fault_in_any_pieces(rt: HostRuntime) -> Result<(), Fail> {
     let alloc = rt.alloc();
     let mut longest = vec![in alloc; b' '; 4093]?;
     longest.extend_from_slice(b"foo")?;
@@ -98,7 +107,22 @@ fn a_text_gives_the_same_items_in_any_pieces(rt: HostRuntime) -> Result<(), Fail
         (b"select", bad),
         (b"select T U", bad),
         (
-            b"load --table T --values '[{\"_key\":\"a\"}]'",
+            b"foo\n\n table_create T TABLE_HASH_KEY ShortText\nbar\n",
+            "UnknownCommand foo \ntable T TABLE_HASH_KEY ShortText \nUnknownCommand bar \n",
+        ),
+    ] {
+        assert!(rt; gives(alloc, text, want)?, "for {want}");
+    }
+    Ok(())
+}
+
+#[test]
+fn a_load_line_gives_its_table_and_its_values_in_any_pieces(rt: HostRuntime) -> Result<(), Fail> {
+    let alloc = rt.alloc();
+    let bad = "BadLine  \n";
+    for (text, want) in [
+        (
+            b"load --table T --values '[{\"_key\":\"a\"}]'".as_slice(),
             "load T [{\"_key\":\"a\"}] \n",
         ),
         (
@@ -114,16 +138,8 @@ fn a_text_gives_the_same_items_in_any_pieces(rt: HostRuntime) -> Result<(), Fail
         (b"load --table T --values '[]''", bad),
         (b"load T --values '[]'", bad),
         (b"load --values '[]' --table T", bad),
-        (
-            b"foo\n\n table_create T TABLE_HASH_KEY ShortText\nbar\n",
-            "UnknownCommand foo \ntable T TABLE_HASH_KEY ShortText \nUnknownCommand bar \n",
-        ),
     ] {
-        for size in [8192, 1, 3] {
-            assert!(rt; size > 0);
-            let items = items(alloc, text, size)?;
-            assert_eq!(rt; items.as_slice(), want.as_bytes(), "{text:?} by {size}");
-        }
+        assert!(rt; gives(alloc, text, want)?, "for {want}");
     }
     Ok(())
 }

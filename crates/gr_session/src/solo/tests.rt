@@ -168,39 +168,46 @@ fn each_command_has_its_reply_and_its_places(rt: HostRuntime) -> Result<(), Fail
             4,
             4,
         ),
+    ];
+    assert_eq!(rt; count_told(rt.alloc(), limits, &cases)?, cases.len());
+    Ok(())
+}
+
+#[test]
+fn a_refused_row_ends_a_load_and_what_was_entered_stays(rt: HostRuntime) -> Result<(), Fail> {
+    let limits = Limits::default();
+    let cases = [
+        told("table_create", "T", "", "[[0],true]\n", 0, 1),
         told(
             "load",
             "T",
             "[{\"_key\":\"c\"},3,{\"_key\":\"d\"}]",
             "[[21,\"BadRow row 2\"],1]\n",
-            4,
-            5,
+            1,
+            2,
         ),
         told(
             "select",
             "T",
             "",
-            "[[0],[[[3],[[\"_id\",\"UInt32\"],[\"_key\",\"ShortText\"]],[1,\"a\"],[2,\"b\"],[3,\"c\"]]]]\n",
-            5,
-            5,
+            "[[0],[[[1],[[\"_id\",\"UInt32\"],[\"_key\",\"ShortText\"]],[1,\"c\"]]]]\n",
+            2,
+            2,
         ),
-        told(
-            "load",
-            "Nope",
-            "[]",
-            "[[11,\"NoSuchTable Nope\"],0]\n",
-            5,
-            5,
-        ),
-        told(
-            "select",
-            "Nope",
-            "",
-            "[[11,\"NoSuchTable Nope\"],false]\n",
-            5,
-            5,
-        ),
-        told("load", "T", "[]", "[[0],0]\n", 5, 5),
+        told("load", "T", "[]", "[[0],0]\n", 2, 2),
+    ];
+    assert_eq!(rt; count_told(rt.alloc(), limits, &cases)?, cases.len());
+    Ok(())
+}
+
+#[test]
+fn a_table_that_is_not_there_is_told(rt: HostRuntime) -> Result<(), Fail> {
+    let limits = Limits::default();
+    let load = "[[11,\"NoSuchTable Nope\"],0]\n";
+    let select = "[[11,\"NoSuchTable Nope\"],false]\n";
+    let cases = [
+        told("load", "Nope", "[]", load, 0, 0),
+        told("select", "Nope", "", select, 0, 0),
     ];
     assert_eq!(rt; count_told(rt.alloc(), limits, &cases)?, cases.len());
     Ok(())

@@ -1,5 +1,4 @@
-use Rattle.std.proofs.Common.{rules, arith, ap, ◌≡◌, ◌++◌, List, ℕ}
-use Rattle.std.proofs.lemmas.Grind.{common_steps}
+use Rattle.std.proofs.Common.{rules}
 use Rattle.json.specs.Print.{escape_byte}
 use Rattle.gr_session.proofs.select.push_escaped.Goals as goal
 
