@@ -1,0 +1,26 @@
+// How often a phrase stands in a text.
+ghost use Rattle.std.specs.Prelude.{◌≡◌, min};
+ghost use Rattle.gr_tokens.specs.Places.{occurrences};
+
+use super::character_places::character_places;
+use super::word_places::word_places;
+
+/// What a phrase is compared by.
+#[derive(Clone, Copy, Debug, PartialEq, Eq)]
+pub enum How {
+    /// Its characters, wherever they stand one after the other.
+    Chars,
+    /// Its words, which are whole words of the text one after the other.
+    Words,
+}
+
+/// At how many places the phrase stands in the text, overlapping ones included. A count above
+/// 2,147,483,647 is given as that number.
+pub fn phrase_places(how: How, text: &str, phrase: &str) -> u32
+    ensures { result ≡ min (occurrences how text.now phrase.now) 2147483647 }
+{
+    match how {
+        How::Chars => character_places(text, phrase),
+        How::Words => word_places(text, phrase),
+    }
+}
