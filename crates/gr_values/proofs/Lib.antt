@@ -1,0 +1,9 @@
+pub mod Decimals
+pub mod Digits
+pub mod Lengths
+pub mod Listing
+pub mod Printed
+pub mod Reading
+pub mod References
+pub mod Written
+pub mod Showable
