@@ -1,0 +1,72 @@
+-- How arguments are read from words.
+use Rattle.std.proofs.Common.{◌≡◌, ◌<◌, ℕ, Bool, true, false, cond, List, [], ◌∷◌, ◌++◌, drop, length, Option, Some, None, option_and_then, option_map, Result, Ok, Err, IfOk, refl, sym, ap, ◌∙◌, append_assoc, arith}
+use Rattle.gr_cmdline.specs.Asked.{arguments, asked_by_words, asked_with, names_argument}
+use Rattle.gr_cmdline.specs.Reading.{ReadsArgument, arguments_behind, arguments_in}
+use Rattle.gr_cmdline.specs.Words.{words}
+use Rattle.gr_cmdline.specs.declared.argument.Argument.{Argument}
+use Rattle.gr_cmdline.specs.declared.argument.Argument.TheVariants.{Named, Placed}
+use Rattle.gr_cmdline.specs.declared.refused.Refused.{Refused}
+use Rattle.gr_cmdline.specs.declared.words.Word.{Word}
+
+-- a word that names no argument stands by its place
+pub arguments-placed : (word : Word) (found : Option (List Word)) → names_argument word ≡ false → option_and_then (λ others. arguments (word ∷ others)) found ≡ option_map (λ others. Placed word.text ∷ others) (option_and_then arguments found)
+arguments-placed word None placed = refl
+arguments-placed word (Some []) placed = ap (λ (b : Bool). cond b None (Some (Placed word.text ∷ []))) placed
+arguments-placed word (Some (next ∷ others)) placed =
+    ap (λ (b : Bool). cond b (option_map (λ more. Named (drop 2 word.text) next.text ∷ more) (arguments others)) (option_map (λ more. Placed word.text ∷ more) (arguments (next ∷ others)))) placed
+
+-- a word that names an argument takes the next as its value
+named-value : (word value : Word) (found : Option (List Word)) → names_argument word ≡ true → option_and_then (λ others. arguments (word ∷ others)) (option_map (λ others. value ∷ others) found) ≡ option_map (λ others. Named (drop 2 word.text) value.text ∷ others) (option_and_then arguments found)
+named-value word value None named = refl
+named-value word value (Some others) named =
+    ap (λ (b : Bool). cond b (option_map (λ more. Named (drop 2 word.text) value.text ∷ more) (arguments others)) (option_map (λ more. Placed word.text ∷ more) (arguments (value ∷ others)))) named
+
+pub arguments-named : (word value : Word) (name old new : List ℕ) → names_argument word ≡ true → name ≡ drop 2 word.text → words old ≡ option_map (λ others. value ∷ others) (words new) → arguments_behind word old ≡ option_map (λ others. Named name value.text ∷ others) (arguments_in new)
+arguments-named word value name old new named same read =
+    ap (option_and_then (λ others. arguments (word ∷ others))) read ∙ named-value word value (words new) named
+    ∙ ap (λ text. option_map (λ others. Named text value.text ∷ others) (arguments_in new)) (sym same)
+
+-- the test that names an argument, by the name that was found
+pub named-some : (b : Bool) (found name : List ℕ) → Some name ≡ cond b (Some found) None → (b ≡ true) × (name ≡ found)
+named-some true found name is = (refl, cc)
+named-some false found name is = cc
+
+pub named-none : (b : Bool) (found : List ℕ) → None ≡ cond b (Some found) None → b ≡ false
+named-none true found is = cc
+named-none false found is = refl
+
+-- a word in front of the words of a line
+behind-word : (word : Word) (found : Option (List Word)) → option_and_then arguments (option_map (λ others. word ∷ others) found) ≡ option_and_then (λ others. arguments (word ∷ others)) found
+behind-word word None = refl
+behind-word word (Some others) = refl
+
+pub arguments_in-word : (word : Word) (old next : List ℕ) → words old ≡ option_map (λ others. word ∷ others) (words next) → arguments_in old ≡ arguments_behind word next
+arguments_in-word word old next read = ap (option_and_then arguments) read ∙ behind-word word (words next)
+
+-- what is read behind a word is read of the whole line
+pub ReadsArgument-word : (all behind : Option (List Argument)) (old next new : List ℕ) (read : Result (Option Argument) Refused) → all ≡ behind → length next < length old → ReadsArgument behind (0 ∷ next) new read → ReadsArgument all old new read
+ReadsArgument-word all behind old next new (Ok None) same longer reads = same ∙ reads
+ReadsArgument-word all behind old next new (Ok (Some argument)) same longer reads = (same ∙ reads.0, omega (arith, reads.1, longer))
+ReadsArgument-word all behind old next new (Err refusal) same longer reads = (same ∙ reads.0, reads.1)
+
+pub IfOk-word : {E : Type 0} (r : Result (Result (Option Argument) Refused) E) (all behind : Option (List Argument)) (old next new : List ℕ) → all ≡ behind → length next < length old → IfOk r (λ read. ReadsArgument behind (0 ∷ next) new read) → IfOk r (λ read. ReadsArgument all old new read)
+IfOk-word (Ok read) all behind old next new same longer reads = ReadsArgument-word all behind old next new read same longer reads
+IfOk-word (Err e) all behind old next new same longer reads = tt
+
+-- an argument goes from those that are left to those that were read
+pub arguments-pushed : (read : List Argument) (argument : Argument) (found : Option (List Argument)) → option_map (λ others. read ++ others) (option_map (λ others. argument ∷ others) found) ≡ option_map (λ others. (read ++ argument ∷ []) ++ others) found
+arguments-pushed read argument None = refl
+arguments-pushed read argument (Some others) = ap Some (sym (append_assoc read (argument ∷ []) others))
+
+-- what a line asks for, by its first word and its arguments
+words-first : (word : Word) (found : Option (List Word)) → asked_by_words (option_map (λ others. word ∷ others) found) ≡ asked_with word.text (option_and_then arguments found)
+words-first word None = refl
+words-first word (Some others) = refl
+
+pub asked_by_words-first : (word : Word) (old next : List ℕ) → words old ≡ option_map (λ others. word ∷ others) (words next) → asked_by_words (words old) ≡ asked_with word.text (arguments_in next)
+asked_by_words-first word old next read = ap asked_by_words read ∙ words-first word (words next)
+
+-- a result that is told by an equation
+pub IfOk-told : {T E : Type 0} (r : Result T E) (x y : T) → x ≡ y → IfOk r (λ made. made ≡ x) → IfOk r (λ made. made ≡ y)
+IfOk-told (Ok made) x y same is = is ∙ same
+IfOk-told (Err e) x y same is = tt

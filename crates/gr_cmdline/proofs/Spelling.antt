@@ -1,0 +1,110 @@
+-- How the rest of a word is put together from its front.
+use Rattle.std.proofs.Common.{◌≡◌, ◌<◌, ◌==◌, ℕ, Bool, true, false, cond, List, [], ◌∷◌, ◌++◌, encode_utf8, length, Option, Some, None, option_map, refl, sym, ap, ◌∙◌, append_assoc, arith, eq-eqb}
+use Rattle.std.proofs.lemmas.List.{append-nil}
+use Rattle.std.proofs.lemmas.Bool.{ne_eqb}
+use Rattle.std.proofs.lemmas.Bool.Decides.{nat_tests}
+use Rattle.gr_cmdline.specs.Reading.{ReadsEscaped, ReadsQuoted}
+use Rattle.gr_cmdline.specs.Words.{Rest, as_word, before, behind_backslash, behind_quotes, between, in_quotes, in_word, is_blank, is_quote, rest_from, with_char, with_text, words}
+use Rattle.gr_cmdline.specs.declared.words.Quoted.{Quoted}
+use Rattle.gr_cmdline.specs.declared.words.Quoted.TheVariants.{Char, Closed, Open}
+use Rattle.gr_cmdline.specs.declared.words.Word.{Word}
+
+-- a text in front of words that are told by the rest of a line
+before-words : (text : List ℕ) (found : Option Rest) → option_map (with_text text) (option_map (λ rest. before [] rest.words) found) ≡ option_map (before text) (option_map (λ rest. rest.words) found)
+before-words text None = refl
+before-words text (Some rest) = ap (λ front. Some (before front rest.words)) (append-nil text)
+
+-- a word that is not in quotes ends at a blank
+pub in_word-blank : (old new : List ℕ) (c : ℕ) → old ≡ c ∷ new → is_blank c ≡ true → rest_from in_word old ≡ option_map (before []) (words new)
+in_word-blank old new c same blank =
+    ap (rest_from in_word) same
+    ∙ ap (λ (b : Bool). cond b (option_map (λ rest. before [] rest.words) (rest_from between new)) (option_map (with_char c) (rest_from in_word new))) blank
+    ∙ ends (rest_from between new)
+  where
+    ends : (found : Option Rest) → option_map (λ rest. before [] rest.words) found ≡ option_map (before []) (option_map (λ rest. rest.words) found)
+    ends None = refl
+    ends (Some rest) = refl
+
+-- a word in quotes ends where a blank follows
+pub behind_quotes-blank : (text old new : List ℕ) (c : ℕ) → old ≡ c ∷ new → is_blank c ≡ true → option_map (with_text text) (rest_from behind_quotes old) ≡ option_map (before text) (words new)
+behind_quotes-blank text old new c same blank =
+    ap (λ line. option_map (with_text text) (rest_from behind_quotes line)) same
+    ∙ ap (λ (b : Bool). option_map (with_text text) (cond b (option_map (λ rest. before [] rest.words) (rest_from between new)) None)) blank
+    ∙ before-words text (rest_from between new)
+
+-- a character goes from the rest of a word to the text before it
+pub with_text-char : (text : List ℕ) (c : ℕ) (found : Option Rest) → option_map (with_text text) (option_map (with_char c) found) ≡ option_map (with_text (text ++ encode_utf8 c)) found
+with_text-char text c None = refl
+with_text-char text c (Some rest) = ap (λ front. Some (before front rest.words)) (sym (append_assoc text (encode_utf8 c) rest.text))
+
+-- nothing in front changes nothing
+pub with_text-nil : (found : Option Rest) → found ≡ option_map (with_text []) found
+with_text-nil None = refl
+with_text-nil (Some rest) = refl
+
+-- the text of a word, where it ends
+pub with_text-before : (text : List ℕ) (found : Option (List Word)) → option_map (with_text text) (option_map (before []) found) ≡ option_map (before text) found
+with_text-before text None = refl
+with_text-before text (Some others) = ap (λ front. Some (before front others)) (append-nil text)
+
+-- a quote is no blank
+quote_no_blank : (c : ℕ) → is_quote c ≡ true → is_blank c ≡ false
+quote_no_blank c quote = grind (arith, nat_tests)
+
+-- a word that begins with a character that is no blank
+words-begun : (c : ℕ) (cs : List ℕ) → is_blank c ≡ false → words (c ∷ cs) ≡ option_map (λ rest. rest.words) (cond (is_quote c) (option_map (as_word true) (rest_from (in_quotes c) cs)) (option_map (λ rest. as_word false (with_char c rest)) (rest_from in_word cs)))
+words-begun c cs blank = ap (λ (b : Bool). option_map (λ rest. rest.words) (cond b (rest_from between cs) (cond (is_quote c) (option_map (as_word true) (rest_from (in_quotes c) cs)) (option_map (λ rest. as_word false (with_char c rest)) (rest_from in_word cs))))) blank
+
+-- how a line goes on behind a quote that begins a word
+behind_quote : (c : ℕ) (cs : List ℕ) → is_quote c ≡ true → words (c ∷ cs) ≡ option_map (λ rest. rest.words) (option_map (as_word true) (rest_from (in_quotes c) cs))
+behind_quote c cs quote =
+    words-begun c cs (quote_no_blank c quote)
+    ∙ ap (λ (b : Bool). option_map (λ rest. rest.words) (cond b (option_map (as_word true) (rest_from (in_quotes c) cs)) (option_map (λ rest. as_word false (with_char c rest)) (rest_from in_word cs)))) quote
+
+-- a word in quotes, and the words after it
+pub words-quoted : (c : ℕ) (cs text new : List ℕ) → is_quote c ≡ true → rest_from (in_quotes c) cs ≡ option_map (before text) (words new) → words (c ∷ cs) ≡ option_map (λ others. record { text = text; quoted = true } ∷ others) (words new)
+words-quoted c cs text new quote read =
+    behind_quote c cs quote ∙ ap (λ found. option_map (λ rest. rest.words) (option_map (as_word true) found)) read ∙ whole (words new)
+  where
+    whole : (found : Option (List Word)) → option_map (λ rest. rest.words) (option_map (as_word true) (option_map (before text) found)) ≡ option_map (λ others. record { text = text; quoted = true } ∷ others) found
+    whole None = refl
+    whole (Some others) = refl
+
+-- a quote that is not closed makes a bad line
+pub words-unclosed : (c : ℕ) (cs : List ℕ) → is_quote c ≡ true → rest_from (in_quotes c) cs ≡ None → words (c ∷ cs) ≡ None
+words-unclosed c cs quote open_end = behind_quote c cs quote ∙ ap (λ found. option_map (λ rest. rest.words) (option_map (as_word true) found)) open_end
+
+-- a word that is not in quotes, and the words after it
+pub words-unquoted : (c : ℕ) (cs text new : List ℕ) → is_blank c ≡ false → is_quote c ≡ false → option_map (with_char c) (rest_from in_word cs) ≡ option_map (before text) (words new) → words (c ∷ cs) ≡ option_map (λ others. record { text = text; quoted = false } ∷ others) (words new)
+words-unquoted c cs text new blank quote read =
+    words-begun c cs blank
+    ∙ ap (λ (b : Bool). option_map (λ rest. rest.words) (cond b (option_map (as_word true) (rest_from (in_quotes c) cs)) (option_map (λ rest. as_word false (with_char c rest)) (rest_from in_word cs)))) quote
+    ∙ split (rest_from in_word cs)
+    ∙ ap (λ found. option_map (λ rest. rest.words) (option_map (as_word false) found)) read
+    ∙ whole (words new)
+  where
+    split : (found : Option Rest) → option_map (λ rest. rest.words) (option_map (λ rest. as_word false (with_char c rest)) found) ≡ option_map (λ rest. rest.words) (option_map (as_word false) (option_map (with_char c) found))
+    split None = refl
+    split (Some rest) = refl
+
+    whole : (found : Option (List Word)) → option_map (λ rest. rest.words) (option_map (as_word false) (option_map (before text) found)) ≡ option_map (λ others. record { text = text; quoted = false } ∷ others) found
+    whole None = refl
+    whole (Some others) = refl
+
+-- a backslash in quotes
+pub ReadsQuoted-escaped : (quote c : ℕ) (old next new : List ℕ) (read : Quoted) → old ≡ c ∷ next → (c ≡ quote → ⊥) → c ≡ 92 → ReadsEscaped quote next new read → ReadsQuoted quote old new read
+ReadsQuoted-escaped quote c old next new read same other slash reads = go read reads
+  where
+    skips : rest_from (in_quotes quote) old ≡ rest_from (behind_backslash quote) next
+    skips =
+        ap (rest_from (in_quotes quote)) same
+        ∙ ap (λ (b : Bool). cond b (rest_from behind_quotes next) (cond (c == 92) (rest_from (behind_backslash quote) next) (option_map (with_char c) (rest_from (in_quotes quote) next)))) (ne_eqb c quote other)
+        ∙ ap (λ (b : Bool). cond b (rest_from (behind_backslash quote) next) (option_map (with_char c) (rest_from (in_quotes quote) next))) (eq-eqb c 92 slash)
+
+    longer : length next < length old
+    longer = omega (arith, ap length same)
+
+    go : (read : Quoted) → ReadsEscaped quote next new read → ReadsQuoted quote old new read
+    go (Char d) reads = (skips ∙ reads.0, omega (arith, longer, reads.1))
+    go Closed reads = absurd reads
+    go Open reads = skips ∙ reads

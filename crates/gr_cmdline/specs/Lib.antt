@@ -1,0 +1,11 @@
+pub mod Names
+pub mod Parameters
+pub mod Arguments
+pub mod Words
+pub mod Asked
+pub mod Reading
+pub mod Binding
+pub mod Line
+pub mod LoadData
+pub mod Commands
+pub mod Stream

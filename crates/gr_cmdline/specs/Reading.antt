@@ -1,0 +1,51 @@
+-- What a cursor over a line's characters has read, from those that were left to those that are left now.
+use Rattle.std.specs.Prelude.{ℕ, ◌≡◌, ◌≤◌, ◌<◌, Option, Some, None, option_and_then, option_map, Result, Ok, Err, List, [], ◌∷◌, length}
+use Rattle.gr_cmdline.specs.Asked.{arguments, bad_line}
+use Rattle.gr_cmdline.specs.Words.{Rest, before, behind_backslash, behind_quotes, in_quotes, rest_from, with_char, words}
+use Rattle.gr_cmdline.specs.declared.argument.Argument.{Argument}
+use Rattle.gr_cmdline.specs.declared.refused.Refused.{Refused}
+use Rattle.gr_cmdline.specs.declared.words.Quoted.{Quoted}
+use Rattle.gr_cmdline.specs.declared.words.Quoted.TheVariants.{Char, Closed, Open}
+use Rattle.gr_cmdline.specs.declared.words.Word.{Word}
+
+-- the next character inside quotes
+abbrev pub ReadsQuoted : ℕ → List ℕ → List ℕ → Quoted → Type 0
+ReadsQuoted quote old new (Char c) = (rest_from (in_quotes quote) old ≡ option_map (with_char c) (rest_from (in_quotes quote) new)) × (length new < length old)
+ReadsQuoted quote old new Closed = (rest_from (in_quotes quote) old ≡ rest_from behind_quotes new) × (length new ≤ length old)
+ReadsQuoted quote old new Open = rest_from (in_quotes quote) old ≡ None
+
+-- the next character behind a backslash in quotes
+abbrev pub ReadsEscaped : ℕ → List ℕ → List ℕ → Quoted → Type 0
+ReadsEscaped quote old new (Char c) = (rest_from (behind_backslash quote) old ≡ option_map (with_char c) (rest_from (in_quotes quote) new)) × (length new < length old)
+ReadsEscaped quote old new Closed = ⊥
+ReadsEscaped quote old new Open = rest_from (behind_backslash quote) old ≡ None
+
+-- the text of a word up to its end
+abbrev pub ReadsText : Option Rest → List ℕ → Result (List ℕ) Refused → Type 0
+ReadsText rest new (Ok text) = rest ≡ option_map (before text) (words new)
+ReadsText rest new (Err refusal) = (rest ≡ None) × (refusal ≡ bad_line)
+
+-- the next word, where one is left
+abbrev pub ReadsWord : List ℕ → List ℕ → Result (Option Word) Refused → Type 0
+ReadsWord old new (Ok None) = words old ≡ Some []
+ReadsWord old new (Ok (Some word)) = (words old ≡ option_map (λ others. word ∷ others) (words new)) × (length new < length old)
+ReadsWord old new (Err refusal) = (words old ≡ None) × (refusal ≡ bad_line)
+
+-- the arguments that the words of a line are
+abbrev pub arguments_in : List ℕ → Option (List Argument)
+arguments_in line = option_and_then arguments (words line)
+
+-- the next argument of all that are left, where one is left
+abbrev pub ReadsArgument : Option (List Argument) → List ℕ → List ℕ → Result (Option Argument) Refused → Type 0
+ReadsArgument all old new (Ok None) = all ≡ Some []
+ReadsArgument all old new (Ok (Some argument)) = (all ≡ option_map (λ others. argument ∷ others) (arguments_in new)) × (length new < length old)
+ReadsArgument all old new (Err refusal) = (all ≡ None) × (refusal ≡ bad_line)
+
+-- all arguments that are left
+abbrev pub ReadsArguments : Option (List Argument) → Result (List Argument) Refused → Type 0
+ReadsArguments all (Ok read) = all ≡ Some read
+ReadsArguments all (Err refusal) = (all ≡ None) × (refusal ≡ bad_line)
+
+-- the arguments that a word and those of a line are
+abbrev pub arguments_behind : Word → List ℕ → Option (List Argument)
+arguments_behind word line = option_and_then (λ others. arguments (word ∷ others)) (words line)

@@ -1,0 +1,127 @@
+// What one line asks for.
+ghost use Rattle.std.specs.Prelude.{◌≡◌, IfOk, MatchOption, false, true};
+ghost use Rattle.std.specs.Str.{is_utf8};
+ghost use Rattle.gr_cmdline.specs.Asked.{asked_of};
+ghost use Rattle.gr_cmdline.specs.Line.{command_asked, command_of_line, from_first, is_skipped, line_of, trimmed, up_to_last, without_return};
+ghost use Rattle.gr_cmdline.specs.Words.{is_blank};
+
+use super::Command;
+use crate::asked::asked_of;
+use crate::binding::command_of;
+use crate::refused::Refused;
+use gr_base::{FaultKind, NoMemory};
+use std::alloc::Global;
+
+/// What a line asks for, where it asks for something.
+pub(crate) fn line_of(
+    alloc: Global,
+    limit: u64,
+    line: &[u8],
+) -> Result<Option<Result<Command, Refused>>, NoMemory>
+    ensures { IfOk result (λ asked. asked ≡ line_of limit line.now) }
+{
+    let text = trimmed(line);
+    if is_skipped(text) {
+        return Ok(None);
+    }
+    Ok(Some(command_of_line(alloc, limit, line, text)?))
+}
+
+/// The command of a line that is not skipped.
+fn command_of_line(
+    alloc: Global,
+    limit: u64,
+    line: &[u8],
+    text: &[u8],
+) -> Result<Result<Command, Refused>, NoMemory>
+    ensures { IfOk result (λ command. command ≡ command_of_line limit line.now text.now) }
+{
+    if line.len() as u64 > limit {
+        return Ok(Err(Refused::unnamed(alloc, FaultKind::LineTooLong)));
+    }
+    match as_text(text) {
+        Some(text) => command_asked(alloc, text),
+        None => Ok(Err(Refused::unnamed(alloc, FaultKind::NotText))),
+    }
+}
+
+/// The command that a text asks for.
+fn command_asked(alloc: Global, text: &str) -> Result<Result<Command, Refused>, NoMemory>
+    ensures { IfOk result (λ command. command ≡ command_asked (asked_of text.now)) }
+{
+    match asked_of(alloc, text)? {
+        Ok(asked) => command_of(alloc, asked),
+        Err(refusal) => Ok(Err(refusal)),
+    }
+}
+
+/// Bytes as a text, where they are UTF-8.
+fn as_text(bytes: &[u8]) -> Option<&str>
+    ensures { MatchOption result (is_utf8 bytes.now ≡ false) (λ text. (text.now ≡ bytes.now) × (is_utf8 bytes.now ≡ true)) }
+{
+    match str::from_utf8(bytes) {
+        Ok(text) => Some(text),
+        Err(_) => None,
+    }
+}
+
+/// An empty line and a comment line ask for nothing.
+fn is_skipped(text: &[u8]) -> bool
+    ensures { result ≡ is_skipped text.now }
+{
+    match text {
+        [] => true,
+        [first, ..] => *first == b'#',
+    }
+}
+
+/// A line without the blanks at its ends.
+pub(crate) fn trimmed(line: &[u8]) -> &[u8]
+    ensures { result.now ≡ trimmed line.now }
+{
+    from_first(up_to_last(line))
+}
+
+/// A line from its first byte that is no blank.
+fn from_first(line: &[u8]) -> &[u8]
+    ensures { result.now ≡ from_first line.now }
+{
+    let mut rest = line;
+    'blanks: while let [first, others @ ..] = rest {
+        if !is_blank(*first) {
+            return rest;
+        }
+        rest = others;
+    }
+    rest
+}
+
+/// A line up to its last byte that is no blank.
+fn up_to_last(line: &[u8]) -> &[u8]
+    ensures { result.now ≡ up_to_last line.now }
+{
+    let mut rest = line;
+    'blanks: while let [others @ .., last] = rest {
+        if !is_blank(*last) {
+            return rest;
+        }
+        rest = others;
+    }
+    rest
+}
+
+/// A line without the one carriage return that may stand at its end.
+pub(crate) fn without_return(line: &[u8]) -> &[u8]
+    ensures { result.now ≡ without_return line.now }
+{
+    match line {
+        [front @ .., last] => { if *last == b'\r' { front } else { line } }
+        [] => line,
+    }
+}
+
+fn is_blank(c: u8) -> bool
+    ensures { result ≡ is_blank c }
+{
+    c == b' ' || c == b'\t'
+}
