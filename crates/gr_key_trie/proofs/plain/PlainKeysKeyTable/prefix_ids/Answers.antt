@@ -1,0 +1,16 @@
+use Rattle.std.proofs.Common.{◌≡◌, ◌++◌, ◌∙◌, subst}
+use Rattle.gr_base.specs.Keys.{KeyMap, AreFound}
+use Rattle.gr_key_trie.specs.Held.{AreHeld, numbers_with}
+use Rattle.gr_key_trie.proofs.Exact.{held_exact}
+use Rattle.gr_key_trie.proofs.Forks.{if_ok}
+use Rattle.gr_key_trie.proofs.Maps.{found_in_order}
+use Rattle.gr_key_trie.proofs.plain.PlainKeysKeyTable.prefix_ids.Goals as goal
+
+pub returns : goal.returns
+returns c =
+    let pairs = c.self.inside.entries.items in
+    let prefix = c.args.prefix.now in
+    let numbers = c.gather.new.numbers.items in
+    let is : numbers ≡ numbers_with prefix pairs = c.in_ok-gather.ensures ∙ (λ i. c.new-numbers.ensures.items i ++ numbers_with prefix (c.as_slice.ensures.value i)) in
+    let held : AreHeld pairs prefix numbers = rw is (held_exact pairs prefix c.self.invariant) in
+    if_ok c.in_order.result (λ ids order. subst (λ (m : KeyMap). AreFound m prefix ids) c.self.view_is (found_in_order pairs prefix numbers ids held order)) c.in_order.ensures
