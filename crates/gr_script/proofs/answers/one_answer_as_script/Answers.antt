@@ -1,0 +1,9 @@
+use Rattle.gr_script.proofs.Answer.{tree_is, fault_is, not_both}
+use Rattle.gr_script.proofs.answers.one_answer_as_script.Goals as goal
+
+pub returns : goal.returns
+returns c = record {
+  tree = λ bytes x y. tree_is;
+  fault = λ bytes kind other at place. fault_is;
+  either = λ bytes x kind at. not_both;
+}

@@ -1,0 +1,108 @@
+-- The grammar of match columns, and what the tokens of a text are by it.
+use Rattle.std.specs.Prelude.{◌≡◌, ◌≤◌, ℕ, Bool, true, false, ◌&&◌, ◌||◌, nat_le, min, not, codes, if◌then◌else◌, Option, Some, None, List, [], ◌∷◌, ◌++◌, IsUtf8}
+use Rattle.std.specs.Str.{bytes_eq}
+use Rattle.gr_base.specs.declared.fault.FaultKind.{FaultKind}
+use Rattle.gr_base.specs.declared.fault.FaultKind.TheVariants.{BadScript, BadNumber}
+use Rattle.gr_script.specs.declared.column.MatchColumn.{MatchColumn}
+use Rattle.gr_script.specs.declared.token.Symbol.TheVariants as s
+use Rattle.gr_script.specs.Text.{first_where}
+use Rattle.gr_script.specs.Token.{Token, symbol, digits, text, path, Lexeme}
+use Rattle.gr_text.specs.Cut.{Cut}
+use Rattle.gr_text.specs.declared.fault.TextFault.{TextFault}
+use Rattle.gr_text.specs.declared.fault.TextFault.TheVariants.{Refused, NoMemory}
+use Rattle.gr_text.specs.Wrong.{IsWrong, wrong_kind}
+
+-- a truth or a call's name, which is no path by itself
+abbrev pub is_reserved : List ℕ → Bool
+is_reserved word = bytes_eq word (codes "true") || bytes_eq word (codes "false") || bytes_eq word (codes "between") || bytes_eq word (codes "in_values")
+
+-- a column's path
+abbrev pub column_word : Token → Option (List ℕ)
+column_word (symbol mark) = None
+column_word (digits n) = None
+column_word (text bytes) = None
+column_word (path word) = if is_reserved word then None else Some word
+
+-- A weight. One above the greatest of 32 bits stands as that one: no text that has one has columns.
+abbrev pub weight_of : Token → Option ℕ
+weight_of (digits n) = Some (min n 4294967295)
+weight_of _ = None
+
+-- whether a token is the mark before a weight
+abbrev pub is_star : Token → Bool
+is_star (symbol s.Star) = true
+is_star _ = false
+
+-- whether a token is the mark between columns
+abbrev pub is_or : Token → Bool
+is_or (symbol s.Or) = true
+is_or _ = false
+
+-- a column at this place
+abbrev pub column : List ℕ → ℕ → ℕ → MatchColumn
+column word at weight = record { path = word; at = at; weight = weight }
+
+-- the column with this weight
+abbrev pub weighted : ℕ → MatchColumn → MatchColumn
+weighted weight of = record { path = of.path; at = of.at; weight = weight }
+
+mutual
+  -- the tokens are these columns, joined by `||`
+  pub data Columns : List Lexeme → List MatchColumn → Type 0 where
+    a_column : {t : Lexeme} {ts : List Lexeme} {word : List ℕ} {columns : List MatchColumn} → column_word t.token ≡ Some word → Weighing (column word t.at 1) ts columns → Columns (t ∷ ts) columns
+
+  -- behind a column's path, the tokens are its weight, or no weight, and further columns
+  pub data Weighing : MatchColumn → List Lexeme → List MatchColumn → Type 0 where
+    no_weight : {first : MatchColumn} {ts : List Lexeme} {columns : List MatchColumn} → Further first ts columns → Weighing first ts columns
+    a_weight : {first : MatchColumn} {t u : Lexeme} {ts : List Lexeme} {weight : ℕ} {columns : List MatchColumn} → is_star t.token ≡ true → weight_of u.token ≡ Some weight → Further (weighted weight first) ts columns → Weighing first (t ∷ u ∷ ts) columns
+
+  -- behind a column, the tokens are further columns
+  pub data Further : MatchColumn → List Lexeme → List MatchColumn → Type 0 where
+    no_column : {first : MatchColumn} → Further first [] (first ∷ [])
+    another : {first : MatchColumn} {t : Lexeme} {ts : List Lexeme} {columns : List MatchColumn} → is_or t.token ≡ true → Columns ts columns → Further first (t ∷ ts) (first ∷ columns)
+
+-- the tokens, or these and some more, are columns; a level is never opened
+abbrev pub BeginsColumns : ℕ → List Lexeme → Type 0
+BeginsColumns levels ts = (more : List Lexeme) × (columns : List MatchColumn) × Columns (ts ++ more) columns
+
+-- the tokens are columns
+abbrev pub AreColumns : ℕ → List Lexeme → Type 0
+AreColumns levels ts = (columns : List MatchColumn) × Columns ts columns
+
+-- whether a token is a number that is no weight
+abbrev pub is_no_weight : Token → Bool
+is_no_weight (symbol mark) = false
+is_no_weight (digits n) = not (nat_le 1 n && nat_le n 1000)
+is_no_weight (text bytes) = false
+is_no_weight (path word) = false
+
+-- the place of the first number outside 1 to 1,000
+abbrev pub first_no_weight : List Lexeme → Option ℕ
+first_no_weight ts = first_where is_no_weight ts
+
+-- what is cut so is these columns
+pub record IsColumns (cut : Cut Token) (columns : List MatchColumn) : Type 0 where
+  pub clean : cut.stranger ≡ None
+  pub sentence : Columns cut.tokens columns
+  pub fits : first_no_weight cut.tokens ≡ None
+
+-- What is cut so is refused as columns, for this and at this place.
+pub data AreRefused (cut : Cut Token) (kind : FaultKind) (at : ℕ) : Type 0 where
+  wrong : (is_deep : Bool) → IsWrong BeginsColumns AreColumns cut is_deep at → kind ≡ wrong_kind BadScript is_deep → AreRefused cut kind at
+  no_weight : (columns : List MatchColumn) → cut.stranger ≡ None → Columns cut.tokens columns → first_no_weight cut.tokens ≡ Some at → kind ≡ BadNumber → AreRefused cut kind at
+
+-- What is cut so is refused as the fault says. Nothing is said of want of memory.
+abbrev pub AreRefusal : Cut Token → TextFault → Type 0
+AreRefusal cut (Refused kind at) = AreRefused cut kind at
+AreRefusal cut NoMemory = Unit {0}
+
+-- the paths are UTF-8, and each weight is 1 to 1,000
+pub record IsMadeColumn (of : MatchColumn) : Type 0 where
+  pub path : IsUtf8 of.path
+  pub least : 1 ≤ of.weight
+  pub most : of.weight ≤ 1000
+
+-- each column is well made
+abbrev pub AreMadeColumns : List MatchColumn → Type 0
+AreMadeColumns [] = Unit {0}
+AreMadeColumns (first ∷ rest) = IsMadeColumn first × AreMadeColumns rest

@@ -1,0 +1,12 @@
+pub mod Token
+pub mod Words
+pub mod Trees
+pub mod Grammar
+pub mod Text
+pub mod Columns
+pub mod ColumnSteps
+pub mod Made
+pub mod Lexing
+pub mod Turns
+pub mod Machine
+pub mod Shown

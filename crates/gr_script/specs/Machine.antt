@@ -1,0 +1,224 @@
+-- How a script is read from the left in one pass: by a stack of parts that are begun.
+use Rattle.std.specs.Prelude.{ℕ, zero, suc, Bool, true, false, if◌then◌else◌, nat_lt, List, [], ◌∷◌, ◌++◌, length, Option, Some, None, Result, Ok, Err, ◌≡◌}
+use Rattle.gr_expr.specs.declared.ast.Arith.{Arith}
+use Rattle.gr_expr.specs.declared.ast.Ast.{Ast}
+use Rattle.gr_expr.specs.declared.ast.Ast.TheVariants as ast
+use Rattle.gr_expr.specs.declared.ast.FieldOp.{FieldOp}
+use Rattle.gr_expr.specs.declared.ast.Join.{Join}
+use Rattle.gr_script.specs.declared.frame.Frame.{Frame}
+use Rattle.gr_script.specs.declared.frame.Frame.TheVariants.{Joining, Testing, Combining, Signing, Grouping, Calling}
+use Rattle.gr_script.specs.declared.frame.Phase.{Phase}
+use Rattle.gr_script.specs.declared.frame.Phase.TheVariants.{Want, Opening, Have}
+use Rattle.gr_script.specs.declared.grammar.After.{After}
+use Rattle.gr_script.specs.declared.grammar.After.TheVariants as after
+use Rattle.gr_script.specs.declared.grammar.Call.{Call}
+use Rattle.gr_script.specs.declared.grammar.Call.TheVariants.{Between, InValues}
+use Rattle.gr_script.specs.declared.grammar.ConditionLine.{ConditionLine}
+use Rattle.gr_script.specs.declared.grammar.ConditionLine.TheVariants.{Any, All}
+use Rattle.gr_script.specs.declared.grammar.NumberLine.{NumberLine}
+use Rattle.gr_script.specs.declared.grammar.NumberLine.TheVariants.{Sum, Product}
+use Rattle.gr_script.specs.declared.grammar.Start.{Start}
+use Rattle.gr_script.specs.declared.grammar.Start.TheVariants as start
+use Rattle.gr_script.specs.declared.stop.Stop.{Stop}
+use Rattle.gr_script.specs.declared.stop.Stop.TheVariants as stop
+use Rattle.gr_script.specs.Token.{Lexeme}
+use Rattle.gr_script.specs.Trees.{place_of, tested, signed, called, takes, link, term}
+use Rattle.gr_script.specs.Words.{start_of, after_of, opens}
+
+-- how tightly a line of conditions binds
+abbrev pub tightness : ConditionLine → ℕ
+tightness Any = 1
+tightness All = 2
+
+-- how tightly a line of numbers binds
+abbrev pub number_tightness : NumberLine → ℕ
+number_tightness Sum = 4
+number_tightness Product = 5
+
+-- how tightly a part that is begun binds what is read in it; brackets do not
+abbrev pub hold : Frame → ℕ
+hold (Joining line first links join) = tightness line
+hold (Testing test left) = 3
+hold (Combining line first terms arith) = number_tightness line
+hold (Signing sign at) = 6
+hold Grouping = 0
+hold (Calling call at args) = 0
+
+-- how many levels a part that is begun opens
+abbrev pub level : Frame → ℕ
+level (Joining line first links join) = 0
+level (Testing test left) = 0
+level (Combining line first terms arith) = 0
+level (Signing sign at) = 1
+level Grouping = 1
+level (Calling call at args) = 1
+
+-- the last begun part
+abbrev pub top : List Frame → Option Frame
+top [] = None
+top (frame ∷ frames) = Some frame
+
+-- how tightly the last begun part binds
+abbrev pub top_hold : List Frame → ℕ
+top_hold [] = 0
+top_hold (frame ∷ frames) = hold frame
+
+-- whether the last begun part is a row of conditions of this line
+abbrev pub is_row : ConditionLine → List Frame → Bool
+is_row Any (Joining Any first links join ∷ frames) = true
+is_row All (Joining All first links join ∷ frames) = true
+is_row line frames = false
+
+-- whether the last begun part is a row of numbers of this line
+abbrev pub is_number_row : NumberLine → List Frame → Bool
+is_number_row Sum (Combining Sum first terms arith ∷ frames) = true
+is_number_row Product (Combining Product first terms arith ∷ frames) = true
+is_number_row line frames = false
+
+-- whether the last begun part is a comparison or a search
+abbrev pub is_test : List Frame → Bool
+is_test (Testing test left ∷ frames) = true
+is_test frames = false
+
+-- how tightly a token binds the operand before it
+abbrev pub pull : After → ℕ
+pull after.Closes = 0
+pull after.Separates = 0
+pull (after.Joins line join) = tightness line
+pull (after.Tests test) = 3
+pull (after.Combines line arith) = number_tightness line
+pull after.Nothing = 0
+
+-- the tree of a part whose last operand is read
+abbrev pub closed : Frame → Ast → Ast
+closed (Joining line first links join) tree = ast.Chain (place_of first) first (links ++ link join tree ∷ [])
+closed (Testing test left) tree = tested test left tree
+closed (Combining line first terms arith) tree = ast.Calc (place_of first) first (terms ++ term arith tree ∷ [])
+closed (Signing sign at) tree = signed sign at tree
+closed Grouping tree = tree
+closed (Calling call at args) tree = tree
+
+-- the levels that are left when a part is closed
+abbrev pub released : Frame → ℕ → ℕ
+released (Joining line first links join) left = left
+released (Testing test left_side) left = left
+released (Combining line first terms arith) left = left
+released (Signing sign at) left = suc left
+released Grouping left = suc left
+released (Calling call at args) left = suc left
+
+-- an operand, the parts round it that are begun, the last one first, and how many levels may still be opened
+pub record Held : Type 0 where
+  pub tree : Ast
+  pub frames : List Frame
+  pub left : ℕ
+
+-- closes the parts that bind the operand more tightly than what follows it
+abbrev pub reduced : ℕ → Ast → List Frame → ℕ → Held
+reduced pulled tree [] left = record { tree = tree; frames = []; left = left }
+reduced pulled tree (frame ∷ frames) left =
+    if nat_lt pulled (hold frame) then reduced pulled (closed frame tree) frames (released frame left)
+    else record { tree = tree; frames = frame ∷ frames; left = left }
+
+-- what comes of a token: the script may go on, too many levels are open, or no script goes on so
+pub data Outcome : Type 0 where
+  goes : Phase → List Frame → ℕ → Outcome
+  deep : Outcome
+  wrong : Outcome
+
+-- a join behind this operand
+abbrev pub join_on : ConditionLine → Join → Ast → List Frame → ℕ → Outcome
+join_on Any join tree (Joining Any first links before ∷ frames) left = goes Want (Joining Any first (links ++ link before tree ∷ []) join ∷ frames) left
+join_on All join tree (Joining All first links before ∷ frames) left = goes Want (Joining All first (links ++ link before tree ∷ []) join ∷ frames) left
+join_on line join tree frames left = goes Want (Joining line tree [] join ∷ frames) left
+
+-- a comparison or a search behind this operand
+abbrev pub test_on : FieldOp → Ast → List Frame → ℕ → Outcome
+test_on test tree (Testing before left_side ∷ frames) left = wrong
+test_on test tree frames left = goes Want (Testing test tree ∷ frames) left
+
+-- a sign of numbers behind this operand
+abbrev pub combine_on : NumberLine → Arith → Ast → List Frame → ℕ → Outcome
+combine_on Sum arith tree (Combining Sum first terms before ∷ frames) left = goes Want (Combining Sum first (terms ++ term before tree ∷ []) arith ∷ frames) left
+combine_on Product arith tree (Combining Product first terms before ∷ frames) left = goes Want (Combining Product first (terms ++ term before tree ∷ []) arith ∷ frames) left
+combine_on line arith tree frames left = goes Want (Combining line tree [] arith ∷ frames) left
+
+-- a closing bracket behind this operand
+abbrev pub close_on : Ast → List Frame → ℕ → Outcome
+close_on tree (Grouping ∷ frames) left = goes (Have tree) frames (suc left)
+close_on tree (Calling call at args ∷ frames) left =
+    if takes call (suc (length args)) then goes (Have (called call at (args ++ tree ∷ []))) frames (suc left) else wrong
+close_on tree frames left = wrong
+
+-- whether a call takes another argument after so many
+abbrev pub takes_more : Call → ℕ → Bool
+takes_more Between count = nat_lt count 5
+takes_more InValues count = true
+
+-- a comma behind this operand
+abbrev pub separate_on : Ast → List Frame → ℕ → Outcome
+separate_on tree (Calling call at args ∷ frames) left =
+    if takes_more call (suc (length args)) then goes Want (Calling call at (args ++ tree ∷ []) ∷ frames) left else wrong
+separate_on tree frames left = wrong
+
+-- what follows an operand whose tighter parts are closed
+abbrev pub placed : After → Held → Outcome
+placed after.Closes held = close_on held.tree held.frames held.left
+placed after.Separates held = separate_on held.tree held.frames held.left
+placed (after.Joins line join) held = join_on line join held.tree held.frames held.left
+placed (after.Tests test) held = test_on test held.tree held.frames held.left
+placed (after.Combines line arith) held = combine_on line arith held.tree held.frames held.left
+placed after.Nothing held = wrong
+
+-- what an operand begins with, at this place
+abbrev pub begun : Start → ℕ → List Frame → ℕ → Outcome
+begun (start.Leaf tree) at frames left = goes (Have tree) frames left
+begun (start.Signed sign) at frames zero = deep
+begun (start.Signed sign) at frames (suc left) = goes Want (Signing sign at ∷ frames) left
+begun start.Grouped at frames zero = deep
+begun start.Grouped at frames (suc left) = goes Want (Grouping ∷ frames) left
+begun (start.Called call) at frames zero = deep
+begun (start.Called call) at frames (suc left) = goes Opening (Calling call at [] ∷ frames) left
+begun start.Nothing at frames left = wrong
+
+-- the next token
+abbrev pub step : Phase → List Frame → ℕ → Lexeme → Outcome
+step Want frames left t = begun (start_of t) t.at frames left
+step Opening frames left t = if opens t.token then goes Want frames left else wrong
+step (Have tree) frames left t = placed (after_of t) (reduced (pull (after_of t)) tree frames left)
+
+-- tokens, from the left
+abbrev pub run : Outcome → List Lexeme → Outcome
+run outcome [] = outcome
+run (goes phase frames left) (t ∷ ts) = run (step phase frames left t) ts
+run deep (t ∷ ts) = deep
+run wrong (t ∷ ts) = wrong
+
+-- before the first token, with so many levels to open
+abbrev pub begin : ℕ → Outcome
+begin levels = goes Want [] levels
+
+-- the tree, where no part but the script itself is still open
+abbrev pub whole : Ast → List Frame → Option Ast
+whole tree [] = Some tree
+whole tree (frame ∷ frames) = None
+
+-- the tree of a script that ends here
+abbrev pub finished : Phase → List Frame → ℕ → Option Ast
+finished Want frames left = None
+finished Opening frames left = None
+finished (Have tree) frames left = let held = reduced 0 tree frames left in whole held.tree held.frames
+
+-- What a step answers is this outcome, with these parts begun and so many levels left, unless memory ran out.
+abbrev pub Answers : Result Phase Stop → List Frame → ℕ → Outcome → Type 0
+Answers (Ok phase) frames left outcome = outcome ≡ goes phase frames left
+Answers (Err stop.Deep) frames left outcome = outcome ≡ deep
+Answers (Err stop.Wrong) frames left outcome = outcome ≡ wrong
+Answers (Err stop.NoMemory) frames left outcome = Unit {0}
+
+-- what the end answers is this tree, or that there is none, unless memory ran out
+abbrev pub Finishes : Result Ast Stop → Option Ast → Type 0
+Finishes (Ok tree) end = end ≡ Some tree
+Finishes (Err stop.Deep) end = ⊥
+Finishes (Err stop.Wrong) end = end ≡ None
+Finishes (Err stop.NoMemory) end = Unit {0}

@@ -1,0 +1,89 @@
+-- What the grammar asks of a token: what an operand may begin with, and what may follow one.
+use Rattle.std.specs.Prelude.{ℕ, Bool, true, false, List, min, codes, if◌then◌else◌}
+use Rattle.std.specs.Str.{bytes_eq}
+use Rattle.gr_base.specs.declared.compare.Cmp.TheVariants as cmp
+use Rattle.gr_expr.specs.declared.ast.Ast.TheVariants as ast
+use Rattle.gr_expr.specs.declared.ast.Arith.TheVariants.{Add, Sub, Mul, Div, Rem}
+use Rattle.gr_expr.specs.declared.ast.FieldOp.TheVariants.{Compare, Find}
+use Rattle.gr_expr.specs.declared.ast.Join.TheVariants as join
+use Rattle.gr_expr.specs.declared.ast.Seek.TheVariants as seek
+use Rattle.gr_script.specs.declared.grammar.After.{After}
+use Rattle.gr_script.specs.declared.grammar.After.TheVariants as after
+use Rattle.gr_script.specs.declared.grammar.Call.TheVariants.{Between, InValues}
+use Rattle.gr_script.specs.declared.grammar.ConditionLine.TheVariants.{Any, All}
+use Rattle.gr_script.specs.declared.grammar.NumberLine.TheVariants.{Sum, Product}
+use Rattle.gr_script.specs.declared.grammar.Sign.TheVariants as sign
+use Rattle.gr_script.specs.declared.grammar.Start.{Start}
+use Rattle.gr_script.specs.declared.grammar.Start.TheVariants as start
+use Rattle.gr_script.specs.declared.token.Symbol.{Symbol}
+use Rattle.gr_script.specs.declared.token.Symbol.TheVariants as s
+use Rattle.gr_script.specs.Token.{Token, symbol, digits, text, path, Lexeme}
+
+-- the greatest number of 64 bits
+abbrev pub greatest : ℕ
+greatest = 18446744073709551615
+
+-- A word without a quote: a truth, a call's name, or a path.
+abbrev pub word_at : ℕ → List ℕ → Start
+word_at at word =
+    if bytes_eq word (codes "true") then start.Leaf (ast.Truth at true)
+    else (if bytes_eq word (codes "false") then start.Leaf (ast.Truth at false)
+    else (if bytes_eq word (codes "between") then start.Called Between
+    else (if bytes_eq word (codes "in_values") then start.Called InValues
+    else start.Leaf (ast.Path at word))))
+
+-- what an operand that begins with this mark is
+abbrev pub start_with : Symbol → Start
+start_with s.Open = start.Grouped
+start_with s.Not = start.Signed sign.Not
+start_with s.Minus = start.Signed sign.Minus
+start_with _ = start.Nothing
+
+-- What an operand that begins with this token is. A number above the greatest stands as that one: no text that has one has a tree.
+abbrev pub start_at : ℕ → Token → Start
+start_at at (symbol mark) = start_with mark
+start_at at (digits n) = start.Leaf (ast.Number at (min n greatest))
+start_at at (text bytes) = start.Leaf (ast.Text at bytes)
+start_at at (path word) = word_at at word
+
+-- what an operand that begins with this token is, at the token's place
+abbrev pub start_of : Lexeme → Start
+start_of t = start_at t.at t.token
+
+-- what this mark is behind an operand
+abbrev pub after_mark : Symbol → After
+after_mark s.Close = after.Closes
+after_mark s.Comma = after.Separates
+after_mark s.Or = after.Joins Any join.Or
+after_mark s.And = after.Joins All join.And
+after_mark s.Without = after.Joins All join.Without
+after_mark s.Eq = after.Tests (Compare cmp.Eq)
+after_mark s.Ne = after.Tests (Compare cmp.Ne)
+after_mark s.Lt = after.Tests (Compare cmp.Lt)
+after_mark s.Le = after.Tests (Compare cmp.Le)
+after_mark s.Gt = after.Tests (Compare cmp.Gt)
+after_mark s.Ge = after.Tests (Compare cmp.Ge)
+after_mark s.Match = after.Tests (Find seek.Match)
+after_mark s.Prefix = after.Tests (Find seek.Prefix)
+after_mark s.Suffix = after.Tests (Find seek.Suffix)
+after_mark s.Plus = after.Combines Sum Add
+after_mark s.Minus = after.Combines Sum Sub
+after_mark s.Star = after.Combines Product Mul
+after_mark s.Slash = after.Combines Product Div
+after_mark s.Percent = after.Combines Product Rem
+after_mark s.Open = after.Nothing
+after_mark s.Not = after.Nothing
+
+-- what a token is behind an operand
+abbrev pub after_by : Token → After
+after_by (symbol mark) = after_mark mark
+after_by _ = after.Nothing
+
+-- what a token at its place is behind an operand
+abbrev pub after_of : Lexeme → After
+after_of t = after_by t.token
+
+-- whether a token is an opening bracket
+abbrev pub opens : Token → Bool
+opens (symbol s.Open) = true
+opens _ = false

@@ -1,0 +1,111 @@
+// How match columns are read from the left in one pass: a step for each token.
+ghost use Rattle.std.specs.Prelude.{◌≡◌, List, Some};
+ghost use Rattle.gr_script.specs.declared.column.MatchColumn.{MatchColumn as Column};
+ghost use Rattle.gr_script.specs.Columns.{column_word, weight_of, is_star, is_or, is_reserved};
+ghost use Rattle.gr_script.specs.ColumnSteps.{Steps, column_step, path_read, weight_read, joined};
+ghost use Rattle.gr_script.specs.Shown.{shown, shown_token};
+
+use crate::column::{MatchColumn, Place};
+use crate::stop::Stop;
+use crate::token::{Lexeme, Symbol, Token};
+
+/// The next token.
+pub(crate) fn column_step(
+    place: Place,
+    columns: &mut Vec<MatchColumn>,
+    lexeme: Lexeme,
+) -> Result<Place, Stop>
+    ensures { Steps result columns.new.items (column_step place columns.old.items (shown lexeme)) }
+{
+    match place {
+        Place::Path => path_read(lexeme),
+        Place::Behind(first) => {
+            if is_star(&lexeme.token) {
+                Ok(Place::Weight(first))
+            } else {
+                join(&lexeme.token, first, columns)
+            }
+        }
+        Place::Weight(first) => weight_read(&lexeme.token, first),
+        Place::Weighted(first) => join(&lexeme.token, first, columns),
+    }
+}
+
+/// A column's path.
+fn path_read(lexeme: Lexeme) -> Result<Place, Stop>
+    ensures { (columns : List Column) → Steps result columns (path_read (column_word (shown_token lexeme.token)) lexeme.at columns) }
+{
+    let Lexeme { at, token } = lexeme;
+    match token {
+        Token::Path(path) => {
+            if is_reserved(path.as_slice()) {
+                Err(Stop::Wrong)
+            } else {
+                Ok(Place::Behind(MatchColumn {
+                    path,
+                    at,
+                    weight: 1,
+                }))
+            }
+        }
+        _ => Err(Stop::Wrong),
+    }
+}
+
+/// A truth or a call's name, which is no path by itself.
+fn is_reserved(word: &[u8]) -> bool
+    ensures { result ≡ is_reserved word.now }
+{
+    word == b"true".as_slice()
+        || word == b"false".as_slice()
+        || word == b"between".as_slice()
+        || word == b"in_values".as_slice()
+}
+
+/// A column's weight.
+fn weight_read(token: &Token, first: MatchColumn) -> Result<Place, Stop>
+    ensures { (columns : List Column) → Steps result columns (weight_read (weight_of (shown_token token.now)) first columns) }
+{
+    match token {
+        Token::Digits(value) => Ok(Place::Weighted(MatchColumn {
+            path: first.path,
+            at: first.at,
+            weight: weight(*value),
+        })),
+        _ => Err(Stop::Wrong),
+    }
+}
+
+/// A weight, or the greatest number of 32 bits where it is above that.
+fn weight(value: Option<u64>) -> u32
+    ensures { weight_of (shown_token (Token.Digits value)) ≡ Some result }
+{
+    match value {
+        Some(value) if value < 4_294_967_295 => value as u32,
+        _ => u32::MAX,
+    }
+}
+
+/// `||` behind a column.
+fn join(token: &Token, first: MatchColumn, columns: &mut Vec<MatchColumn>) -> Result<Place, Stop>
+    ensures { Steps result columns.new.items (joined (is_or (shown_token token.now)) first columns.old.items) }
+{
+    if is_or(token) {
+        columns.push(first)?;
+        Ok(Place::Path)
+    } else {
+        Err(Stop::Wrong)
+    }
+}
+
+fn is_star(token: &Token) -> bool
+    ensures { result ≡ is_star (shown_token token.now) }
+{
+    matches!(token, Token::Symbol(Symbol::Star))
+}
+
+fn is_or(token: &Token) -> bool
+    ensures { result ≡ is_or (shown_token token.now) }
+{
+    matches!(token, Token::Symbol(Symbol::Or))
+}

@@ -1,0 +1,118 @@
+// What the grammar asks of a token.
+ghost use Rattle.std.specs.Prelude.{◌≡◌};
+
+use gr_expr::{Arith, Ast, FieldOp, Join};
+
+/// The lines of the grammar that join conditions.
+#[derive(Clone, Copy, Debug, PartialEq, Eq)]
+pub(crate) enum ConditionLine {
+    /// Joined by `||`.
+    Any,
+    /// Joined by `&&` and `&!`.
+    All,
+}
+
+impl ConditionLine {
+    ghost use Rattle.gr_script.specs.Machine.{tightness};
+
+    /// How tightly it binds.
+    pub(crate) fn tightness(self) -> u64
+        ensures { result ≡ tightness self }
+    {
+        match self {
+            ConditionLine::Any => 1,
+            ConditionLine::All => 2,
+        }
+    }
+}
+
+/// The lines of the grammar that combine numbers.
+#[derive(Clone, Copy, Debug, PartialEq, Eq)]
+pub(crate) enum NumberLine {
+    /// Combined by `+` and `-`.
+    Sum,
+    /// Combined by `*`, `/` and `%`.
+    Product,
+}
+
+impl NumberLine {
+    ghost use Rattle.gr_script.specs.Machine.{number_tightness};
+
+    /// How tightly it binds.
+    pub(crate) fn tightness(self) -> u64
+        ensures { result ≡ number_tightness self }
+    {
+        match self {
+            NumberLine::Sum => 4,
+            NumberLine::Product => 5,
+        }
+    }
+}
+
+/// What stands before an operand.
+#[derive(Clone, Copy, Debug, PartialEq, Eq)]
+pub(crate) enum Sign {
+    /// `!`
+    Not,
+    /// `-`
+    Minus,
+}
+
+/// What is called by its name.
+#[derive(Clone, Copy, Debug, PartialEq, Eq)]
+pub(crate) enum Call {
+    /// `between`, of five arguments.
+    Between,
+    /// `in_values`, of two arguments at least.
+    InValues,
+}
+
+/// What an operand may begin with.
+#[derive(Drop)]
+pub(crate) enum Start {
+    /// The token is an operand by itself.
+    Leaf(Ast),
+    /// A sign, with its operand after it.
+    Signed(Sign),
+    /// An opening bracket.
+    Grouped,
+    /// A call's name.
+    Called(Call),
+    /// No operand begins so.
+    Nothing,
+}
+
+/// What may follow an operand.
+#[derive(Clone, Copy)]
+pub(crate) enum After {
+    /// A closing bracket.
+    Closes,
+    /// A comma.
+    Separates,
+    /// A join of conditions.
+    Joins(ConditionLine, Join),
+    /// A comparison or a search.
+    Tests(FieldOp),
+    /// A combination of numbers.
+    Combines(NumberLine, Arith),
+    /// Nothing follows an operand so.
+    Nothing,
+}
+
+impl After {
+    ghost use Rattle.gr_script.specs.Machine.{pull};
+
+    /// How tightly it binds the operand before it.
+    pub(crate) fn pull(self) -> u64
+        ensures { result ≡ pull self }
+    {
+        match self {
+            After::Closes => 0,
+            After::Separates => 0,
+            After::Joins(line, _) => line.tightness(),
+            After::Tests(_) => 3,
+            After::Combines(line, _) => line.tightness(),
+            After::Nothing => 0,
+        }
+    }
+}

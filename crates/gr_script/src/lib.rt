@@ -1,0 +1,27 @@
+// The script syntax: from a text to its tree, or to its fault.
+#![tactic(auto)]
+
+mod answers;
+mod column;
+mod columns;
+mod frame;
+mod grammar;
+mod lexer;
+mod match_columns;
+mod reader;
+mod script;
+mod stack;
+mod stop;
+mod symbols;
+#[cfg(test)]
+mod tests;
+mod token;
+mod tokenizer;
+mod trees;
+mod turn;
+mod words;
+
+pub use answers::{one_answer_as_columns, one_answer_as_script};
+pub use column::{MatchColumn, MatchColumns};
+pub use match_columns::parse_columns;
+pub use script::parse;
