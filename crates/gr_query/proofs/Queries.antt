@@ -1,0 +1,168 @@
+-- Queries, and what begins one, are what the reader goes through.
+use Rattle.std.proofs.Common.{◌≡◌, ℕ, suc, List, [], ◌∷◌, ◌++◌, append-nil, Option, Some, None, refl, sym, ◌∙◌, ap, subst}
+use Rattle.gr_expr.specs.declared.ast.Ast.{Ast}
+use Rattle.gr_expr.specs.declared.ast.Ast.TheVariants as ast
+use Rattle.gr_expr.specs.declared.ast.Joined.{Joined}
+use Rattle.gr_expr.specs.declared.ast.Seek.TheVariants as seek
+use Rattle.gr_query.specs.declared.frame.Before.{Before}
+use Rattle.gr_query.specs.declared.frame.Phase.{Phase}
+use Rattle.gr_query.specs.declared.frame.Phase.TheVariants.{Begin, Want, Have}
+use Rattle.gr_query.specs.declared.frame.Row.{Row}
+use Rattle.gr_query.specs.declared.token.Token.TheVariants.{Close, Word}
+use Rattle.gr_query.specs.Grammar.{ReadsQuery, a_query, ReadsFirst, no_sign, ReadsFollow, no_follow, a_unit, ReadsUnit, a_word, Sentence, Begins}
+use Rattle.gr_query.specs.Machine.{begin, Outcome, goes, deep, wrong, placed, step, run, finished}
+use Rattle.gr_query.specs.Rows.{alone, with_links, tree_of}
+use Rattle.gr_query.specs.Token.{Lexeme}
+use Rattle.gr_query.proofs.Steps.{Ends, at_end, at_close, Completes, Starts, Goes, GoesOn, with_links-nil, step_to, step_from}
+
+-- what finishes the query with these tokens first finishes it behind them
+run_to : (w : Ast) (ts more : List Lexeme) (o : Outcome) → GoesOn w o (ts ++ more) → GoesOn w (run o ts) more
+run_to w [] more o m = m
+run_to w (t ∷ ts) more (goes phase frames levels) m = run_to w ts more (step phase frames levels t) (step_to w phase frames levels t (ts ++ more) m)
+run_to w (t ∷ ts) more deep m = m
+run_to w (t ∷ ts) more wrong m = m
+
+run_from : (w : Ast) (ts more : List Lexeme) (o : Outcome) → GoesOn w (run o ts) more → GoesOn w o (ts ++ more)
+run_from w [] more o m = m
+run_from w (t ∷ ts) more (goes phase frames levels) m = step_from w phase frames levels t (ts ++ more) (run_from w ts more (step phase frames levels t) m)
+run_from w (t ∷ ts) more deep m = m
+run_from w (t ∷ ts) more wrong m = m
+
+-- the tree of a query that ends with an outcome
+abbrev pub end_of : Outcome → Option Ast
+end_of (goes phase frames levels) = finished phase frames
+end_of deep = None
+end_of wrong = None
+
+some_is : {a b : Ast} → Some a ≡ Some b → a ≡ b
+some_is h = cc
+
+none_is : {a : Ast} → None ≡ Some a → ⊥
+none_is h = cc
+
+no_unit : {levels : ℕ} {tree : Ast} {at : ℕ} {rest : List Lexeme} → ReadsUnit levels [] tree at rest → ⊥
+no_unit u = elim u [ ]
+
+no_first : {levels : ℕ} {first : Row} {rest : List Lexeme} → ReadsFirst levels [] first rest → ⊥
+no_first (no_sign u) = no_unit u
+
+row_to : {w : Ast} {frames : List Before} {levels : ℕ} (row : Row) {links : List Joined} {rest : List Lexeme} → ReadsFollow levels [] links rest → Ends w frames levels (with_links row links) rest → finished (Have row) frames ≡ Some w
+row_to row no_follow (at_end e) = ap Some (sym (ap tree_of (with_links-nil row)) ∙ e)
+row_to row (a_unit u l) ends = absurd (no_unit u)
+
+ended_to : (w : Ast) (phase : Phase) (frames : List Before) (levels : ℕ) → Goes w phase frames levels [] → finished phase frames ≡ Some w
+ended_to w Begin frames levels m = absurd (no_first m.reads)
+ended_to w (Want before) frames levels m = absurd (no_unit m.reads)
+ended_to w (Have row) frames levels m = row_to row m.follows m.ends
+
+ended_from : (w : Ast) (phase : Phase) (frames : List Before) (levels : ℕ) → finished phase frames ≡ Some w → Goes w phase frames levels []
+ended_from w Begin frames levels e = absurd (none_is e)
+ended_from w (Want before) frames levels e = absurd (none_is e)
+ended_from w (Have row) [] levels e = record { links = []; rest = []; follows = no_follow; ends = at_end (ap tree_of (with_links-nil row) ∙ some_is e) }
+ended_from w (Have row) (before ∷ frames) levels e = absurd (none_is e)
+
+end_to : (w : Ast) (o : Outcome) → GoesOn w o [] → end_of o ≡ Some w
+end_to w (goes phase frames levels) m = ended_to w phase frames levels m
+end_to w deep m = absurd m
+end_to w wrong m = absurd m
+
+end_from : (w : Ast) (o : Outcome) → end_of o ≡ Some w → GoesOn w o []
+end_from w (goes phase frames levels) e = ended_from w phase frames levels e
+end_from w deep e = none_is e
+end_from w wrong e = none_is e
+
+sentence_goes : (levels : ℕ) (ts : List Lexeme) (w : Ast) → Sentence levels ts w → Starts w [] levels ts
+sentence_goes levels ts w s = go s.1
+  where
+    go : {w : Ast} {at : ℕ} → ReadsQuery levels ts w at [] → Starts w [] levels ts
+    go (a_query f l) = record { first = _; rest = _; reads = f; completes = record { links = _; rest = _; follows = l; ends = at_end refl } }
+
+goes_sentence : (levels : ℕ) (ts : List Lexeme) (w : Ast) → Starts w [] levels ts → Sentence levels ts w
+goes_sentence levels ts w m = go m.reads (m.completes).follows (m.completes).ends
+  where
+    go : {first : Row} {us rest : List Lexeme} {links : List Joined} → ReadsFirst levels ts first us → ReadsFollow levels us links rest → Ends w [] levels (with_links first links) rest → Sentence levels ts w
+    go {first} f l (at_end e) = (first.at, subst (λ tree. ReadsQuery levels ts tree first.at []) e (a_query f l))
+
+-- the tokens are a query exactly where the reader ends with its tree
+pub sentence_to : (levels : ℕ) (ts : List Lexeme) (w : Ast) → Sentence levels ts w → end_of (run (begin levels) ts) ≡ Some w
+sentence_to levels ts w s =
+    end_to w (run (begin levels) ts) (run_to w ts [] (begin levels) (subst (λ us. Starts w [] levels us) (sym (append-nil ts)) (sentence_goes levels ts w s)))
+
+pub sentence_from : (levels : ℕ) (ts : List Lexeme) (w : Ast) → end_of (run (begin levels) ts) ≡ Some w → Sentence levels ts w
+sentence_from levels ts w e =
+    goes_sentence levels ts w (subst (λ us. Starts w [] levels us) (append-nil ts) (run_from w ts [] (begin levels) (end_from w (run (begin levels) ts) e)))
+
+-- the tokens have one tree at most
+pub one_tree : (levels : ℕ) (ts : List Lexeme) (x y : Ast) → Sentence levels ts x → Sentence levels ts y → x ≡ y
+one_tree levels ts x y a b = some_is (sym (sentence_to levels ts x a) ∙ sentence_to levels ts y b)
+
+abbrev pub IsGoing : Outcome → Type 0
+IsGoing (goes phase frames levels) = Unit {0}
+IsGoing deep = ⊥
+IsGoing wrong = ⊥
+
+going : (w : Ast) (ts : List Lexeme) (o : Outcome) → GoesOn w o ts → IsGoing o
+going w ts (goes phase frames levels) m = tt
+going w ts deep m = m
+going w ts wrong m = m
+
+closing : Lexeme
+closing = record { at = 0; token = Close }
+
+closing_closes : closing.token ≡ Close
+unfolding closing
+closing_closes = refl
+
+some_word : Lexeme
+some_word = record { at = 0; token = Word seek.Match [] }
+
+is_a_word : some_word.token ≡ Word seek.Match []
+unfolding some_word
+is_a_word = refl
+
+-- closing brackets finish a row in open brackets
+record Finished (frames : List Before) (levels : ℕ) (row : Row) : Type 0 where
+  whole : Ast
+  ts : List Lexeme
+  ends : Ends whole frames levels row ts
+
+finishing : (frames : List Before) (levels : ℕ) (row : Row) → Finished frames levels row
+finishing [] levels row = record { whole = tree_of row; ts = []; ends = at_end refl }
+finishing (before ∷ frames) levels row =
+    let next = placed before row.at (tree_of row) in
+    let f = finishing frames (suc levels) next in
+    record { whole = f.whole; ts = closing ∷ f.ts; ends = at_close closing_closes no_follow (subst (λ of. Ends f.whole frames (suc levels) of f.ts) (sym (with_links-nil next)) f.ends) }
+
+-- some tokens finish each state
+record Ending (phase : Phase) (frames : List Before) (levels : ℕ) : Type 0 where
+  whole : Ast
+  ts : List Lexeme
+  goes_on : Goes whole phase frames levels ts
+
+having : (frames : List Before) (levels : ℕ) (row : Row) → (f : Finished frames levels row) → Completes f.whole frames levels row f.ts
+having frames levels row f = record { links = []; rest = f.ts; follows = no_follow; ends = subst (λ of. Ends f.whole frames levels of f.ts) (sym (with_links-nil row)) f.ends }
+
+ending : (phase : Phase) (frames : List Before) (levels : ℕ) → Ending phase frames levels
+ending Begin frames levels =
+    let row = alone some_word.at (ast.Word some_word.at seek.Match []) in
+    let f = finishing frames levels row in
+    record { whole = f.whole; ts = some_word ∷ f.ts; goes_on = record { first = row; rest = f.ts; reads = no_sign (a_word is_a_word); completes = having frames levels row f } }
+ending (Want before) frames levels =
+    let row = placed before some_word.at (ast.Word some_word.at seek.Match []) in
+    let f = finishing frames levels row in
+    record { whole = f.whole; ts = some_word ∷ f.ts; goes_on = record { tree = ast.Word some_word.at seek.Match []; at = some_word.at; rest = f.ts; reads = a_word is_a_word; completes = having frames levels row f } }
+ending (Have row) frames levels =
+    let f = finishing frames levels row in
+    record { whole = f.whole; ts = f.ts; goes_on = having frames levels row f }
+
+-- the tokens begin a query exactly where the reader goes on behind them
+pub begins_to : (levels : ℕ) (ts : List Lexeme) → Begins levels ts → IsGoing (run (begin levels) ts)
+begins_to levels ts b = going b.1 b.0 (run (begin levels) ts) (run_to b.1 ts b.0 (begin levels) (sentence_goes levels (ts ++ b.0) b.1 b.2))
+
+pub begins_from : (levels : ℕ) (ts : List Lexeme) → IsGoing (run (begin levels) ts) → Begins levels ts
+begins_from levels ts g = go (run (begin levels) ts) g (λ w more m. run_from w ts more (begin levels) m)
+  where
+    go : (o : Outcome) → IsGoing o → ((w : Ast) (more : List Lexeme) → GoesOn w o more → Starts w [] levels (ts ++ more)) → Begins levels ts
+    go (goes phase frames left) g back = let e = ending phase frames left in (e.ts, e.whole, goes_sentence levels (ts ++ e.ts) e.whole (back e.whole e.ts e.goes_on))
+    go deep g back = absurd g
+    go wrong g back = absurd g

@@ -1,0 +1,10 @@
+pub mod Runs
+pub mod Token
+pub mod Reading
+pub mod Rows
+pub mod Grammar
+pub mod Text
+pub mod Made
+pub mod Lexing
+pub mod Machine
+pub mod Turns

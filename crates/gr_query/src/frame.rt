@@ -1,0 +1,37 @@
+// What the reader keeps of a query while it reads on.
+
+use gr_expr::{Ast, Join, Joined};
+use sqlite_items::Items;
+
+/// Units in a row, each joined to those before it.
+#[derive(Drop)]
+pub(crate) struct Row {
+    /// The place of the first token that is no opening bracket.
+    pub(crate) at: u64,
+    /// The first tree.
+    pub(crate) first: Ast,
+    /// The further ones.
+    pub(crate) links: Items<Joined>,
+}
+
+/// What stands before a unit, in its bracket.
+#[derive(Drop)]
+pub(crate) enum Before {
+    /// The unit is the first, without a sign.
+    Nothing,
+    /// The unit is the first, behind a `+` at this place.
+    Plus(u64),
+    /// The unit is joined so to those in this row.
+    Joins(Row, Join),
+}
+
+/// What comes next.
+#[derive(Drop)]
+pub(crate) enum Phase {
+    /// A sign or a unit, with which a query begins.
+    Begin,
+    /// A unit, behind this.
+    Want(Before),
+    /// What may follow the units of this row.
+    Have(Row),
+}

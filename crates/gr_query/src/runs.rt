@@ -1,0 +1,88 @@
+// Runs: characters in a row, with escapes among them.
+ghost use Rattle.std.specs.Prelude.{◌≡◌, ◌++◌, ◌∷◌, ◌<◌, ◌≤◌, List, ℕ, IfNone, IfOk, IfSome, IsUtf8, drop, length};
+ghost use Rattle.std.specs.Str.{IsCharBoundary};
+ghost use Rattle.std.specs.Bool.{OnTrue};
+ghost use Rattle.gr_query.specs.Reading.{EndsInStar, shown_run};
+ghost use Rattle.gr_query.specs.Runs.{is_run, no_run, run_from, with_byte};
+
+use gr_base::NoMemory;
+use gr_text::is_blank;
+use std::alloc::Global;
+
+/// A run that was read.
+#[derive(Drop)]
+pub(crate) struct Run {
+    /// What it means.
+    pub(crate) text: Vec<u8>,
+    /// How many bytes it has, none where no run stands here.
+    pub(crate) len: usize,
+    /// Its last character is a `*` with no escape.
+    pub(crate) is_starred: bool,
+}
+
+/// A byte of a run, and how many bytes it was read from.
+#[derive(Clone, Copy)]
+struct Character {
+    byte: u8,
+    len: usize,
+    is_star: bool,
+}
+
+/// The run that the bytes begin with, as long as it goes.
+pub(crate) fn run_from(alloc: Global, bytes: &[u8]) -> Result<Run, NoMemory>
+    ensures exact { IfOk result (λ run. shown_run run ≡ run_from bytes.now) }
+    ensures star { IfOk result (λ run. OnTrue run.is_starred (EndsInStar run.text.items)) }
+    ensures within { IfOk result (λ run. run.len ≤ length bytes.now) }
+    ensures text { IsUtf8 bytes.now → IfOk result (λ run. IsUtf8 run.text.items) }
+    ensures rest { IsUtf8 bytes.now → IfOk result (λ run. IsUtf8 (drop run.len bytes.now)) }
+{
+    let mut text = Vec::new(alloc);
+    let mut rest = bytes;
+    let mut is_starred = false;
+    'characters: while let Some(next) = next_character(rest) {
+        text.push(next.byte)?;
+        is_starred = next.is_star;
+        rest = rest.split_at(next.len).1;
+    }
+    Ok(Run {
+        text,
+        len: bytes.len() - rest.len(),
+        is_starred,
+    })
+}
+
+/// The character that the bytes begin with, if a run goes on with it.
+fn next_character(bytes: &[u8]) -> Option<Character>
+    ensures some { IfSome result (λ next. 0 < next.len) }
+    ensures within { IfSome result (λ next. next.len ≤ length bytes.now) }
+    ensures further { IfSome result (λ next. run_from bytes.now ≡ with_byte next.byte next.len next.is_star (run_from (drop next.len bytes.now))) }
+    ensures star { IfSome result (λ next. OnTrue next.is_star (next.byte ≡ 42)) }
+    ensures text { IfSome result (λ next. (front : List ℕ) → IsUtf8 (front ++ bytes.now) → IsUtf8 (front ++ next.byte ∷ drop next.len bytes.now)) }
+    ensures none { IfNone result (run_from bytes.now ≡ no_run) }
+    ensures stop { IfNone result (IsCharBoundary bytes.now 0) }
+{
+    let (first, others) = bytes.split_first()?;
+    if *first == b'\\' {
+        let (escaped, _) = others.split_first()?;
+        return Some(Character {
+            byte: *escaped,
+            len: 2,
+            is_star: false,
+        });
+    }
+    if !is_run(*first) {
+        return None;
+    }
+    Some(Character {
+        byte: *first,
+        len: 1,
+        is_star: *first == b'*',
+    })
+}
+
+/// A character that stands for itself in a run.
+fn is_run(byte: u8) -> bool
+    ensures { result ≡ is_run byte }
+{
+    !(is_blank(byte) || byte == b'"' || byte == b'(' || byte == b')' || byte == b'\\')
+}
