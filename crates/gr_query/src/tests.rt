@@ -48,7 +48,7 @@ const TREES: [Case; 40] = [
     Case("1:x", "01:x"),
     Case("n:\"\"", "0n="),
     Case("\"\"", "0"),
-    Case(" \t(\r\na )", "3a"),
+    Case(" \t(\r\na )", "5a"),
     Case("é\\é", "0éé"),
     Case("n:\\>5", "0n=>5"),
 ];
