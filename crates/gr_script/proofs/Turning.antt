@@ -1,5 +1,5 @@
 -- What the next token makes of where a reader stands.
-use Rattle.std.proofs.Common.{◌≡◌, ℕ, zero, suc, ◌+◌, ◌-◌, ◌^◌, add-zero, zero-add, Bool, true, false, cond, nat_lt, Option, Some, None, Result, Ok, Err, List, [], ◌∷◌, ◌++◌, length, append_assoc, append-nil, refl, sym, ◌∙◌, ap, subst, arith}
+use Rattle.std.proofs.Common.{◌≡◌, ℕ, zero, ◌+◌, ◌-◌, ◌^◌, zero-add, Bool, true, false, cond, nat_lt, Option, Some, None, Result, Ok, Err, List, [], ◌∷◌, ◌++◌, length, append_assoc, append-nil, refl, sym, ◌∙◌, ap, subst, arith}
 use Rattle.std.specs.Prelude.{MatchOption, IfOk, IfErr}
 use mathlib.Core.Path.{subst₂}
 use Rattle.std.proofs.lemmas.Bool.{ltb-true, ltb-false, lt-ltb, le-ltb}
@@ -25,8 +25,8 @@ use Rattle.gr_script.specs.Turns.{AreText, IsAt, Reading, Stands, Ended, fault_o
 use Rattle.gr_script.specs.Words.{greatest, start_at, after_by, opens}
 use Rattle.gr_script.proofs.Faults.{run-append, token_wrong, token_deep, character_wrong, end_wrong, number_large, script_read}
 use Rattle.gr_script.proofs.Making.{made_part}
-use Rattle.gr_text.specs.Characters.{is_blank}
-use Rattle.gr_text.specs.Cut.{Cut, cut_at, cut_from}
+use Rattle.gr_text.proofs.Cuts.{length-cut_from}
+use Rattle.gr_text.specs.Cut.{Cut}
 use Rattle.gr_text.specs.Wrong.{most_levels}
 use Rattle.gr_text.specs.declared.fault.TextFault.{TextFault}
 use Rattle.gr_text.specs.declared.fault.TextFault.TheVariants.{Refused}
@@ -258,19 +258,5 @@ pub told_made : (whole : Cut Token) (result : Result Ast TextFault) → Ended wh
 told_made whole (Ok tree) e = e.1
 told_made whole (Err fault) e = tt
 
--- a text is cut whole
-cut_length : {T : Type 0} (cutter : List ℕ → Option (T × ℕ)) (at pass : ℕ) (bytes : List ℕ) → (cut_from cutter at pass bytes).length ≡ at + length bytes
-cut_length cutter at pass [] = sym (add-zero at)
-cut_length {T} cutter at zero (c ∷ cs) = blank (is_blank c) (λ pass. cut_length cutter (at + 1) pass cs)
-  where
-    token : (found : Option (T × ℕ)) → ((pass : ℕ) → (cut_from cutter (at + 1) pass cs).length ≡ at + 1 + length cs) → (cut_at at (length (c ∷ cs)) (λ pass. cut_from cutter (at + 1) pass cs) found).length ≡ at + length (c ∷ cs)
-    token None later = refl
-    token (Some t) later = later (t.1 - 1) ∙ omega arith
-
-    blank : (b : Bool) → ((pass : ℕ) → (cut_from cutter (at + 1) pass cs).length ≡ at + 1 + length cs) → (cond b (cut_from cutter (at + 1) zero cs) (cut_at at (length (c ∷ cs)) (λ pass. cut_from cutter (at + 1) pass cs) (cutter (c ∷ cs)))).length ≡ at + length (c ∷ cs)
-    blank true later = later zero ∙ omega arith
-    blank false later = token (cutter (c ∷ cs)) later
-cut_length cutter at (suc pass) (c ∷ cs) = cut_length cutter (at + 1) pass cs ∙ omega arith
-
 pub tokens_length : (bytes : List ℕ) → (tokens_of bytes).length ≡ length bytes
-tokens_length bytes = cut_length token_at 0 0 bytes ∙ zero-add (length bytes)
+tokens_length bytes = length-cut_from token_at 0 0 bytes ∙ zero-add (length bytes)
