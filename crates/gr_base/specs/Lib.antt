@@ -3,3 +3,4 @@ pub mod Fault
 pub mod Limits
 pub mod Compare
 pub mod Keys
+pub mod Kept

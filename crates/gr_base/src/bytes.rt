@@ -1,34 +1,60 @@
-// Texts that are shared and never change.
-ghost use Rattle.std.specs.Prelude.{◌≡◌, IfOk, IsUtf8, string_bytes};
+// Texts that never change: short ones in place, longer ones shared.
+ghost use Rattle.std.specs.Prelude.{◌≡◌, IfOk, IfSome, IsUtf8, string_bytes};
 
 use super::NoMemory;
+use crate::short::{MOST, Short};
 use std::alloc::Global;
 use std::cmp::Ordering;
 use std::marker::Model;
 use std::sync::Arc;
 
-/// A text that is shared and never changes. A copy is one more owner of the same bytes.
+/// A text that never changes. A text of up to 14 bytes takes no allocation; a copy of a longer one is one more owner of the same bytes.
 #[derive(Drop)]
 pub struct Bytes {
-    shared: Arc<Vec<u8>>,
+    kept: Kept,
+}
+
+/// Where a text stands.
+#[derive(Drop)]
+enum Kept {
+    /// In place.
+    Short(Short),
+    /// Shared by all its copies.
+    Long(Arc<Vec<u8>>),
 }
 
 impl Model for Bytes {
     ghost use Rattle.std.specs.Prelude.{List, ℕ};
-    ghost use Rattle.std.specs.Arc.{arc_value};
+    ghost use Rattle.gr_base.specs.Kept.{text_of};
 
     ghost Value = { List ℕ };
 
-    ghost view = { λ bytes. (arc_value bytes.shared).items };
+    ghost view = { λ bytes. text_of bytes.kept };
 }
 
 impl Bytes {
-    /// Takes a vector's bytes over. The one allocation is that of the shared count.
+    /// Takes a vector's bytes over. Of a short text they are copied, and of a longer one the one allocation is that of the shared count.
     pub fn from_vec(alloc: Global, bytes: Vec<u8>) -> Result<Bytes, NoMemory>
         ensures { IfOk result (λ made. made ≡ bytes.items) }
     {
+        if let Some(text) = Bytes::short(bytes.as_slice()) {
+            return Ok(text);
+        }
         let shared = Arc::new(alloc, bytes)?;
-        Ok(Bytes { shared })
+        let kept = Kept::Long(shared);
+        Ok(Bytes { kept })
+    }
+
+    /// Copies a short slice.
+    fn short(bytes: &[u8]) -> Option<Bytes>
+        ensures { IfSome result (λ text. text ≡ bytes.now) }
+    {
+        if bytes.len() <= MOST {
+            let kept = Kept::Short(Short::from_slice(bytes));
+            Some(Bytes { kept })
+        } else {
+            None
+        }
     }
 
     /// Takes a string's bytes over.
@@ -43,6 +69,9 @@ impl Bytes {
     pub fn from_slice(alloc: Global, bytes: &[u8]) -> Result<Bytes, NoMemory>
         ensures { IfOk result (λ made. made ≡ bytes.now) }
     {
+        if let Some(text) = Bytes::short(bytes) {
+            return Ok(text);
+        }
         let copied = Vec::from_slice(alloc, bytes)?;
         Bytes::from_vec(alloc, copied)
     }
@@ -51,7 +80,10 @@ impl Bytes {
     pub fn as_slice(&self) -> &[u8]
         ensures { result.now ≡ self.now }
     {
-        self.shared.as_slice()
+        match &self.kept {
+            Kept::Short(short) => short.as_slice(),
+            Kept::Long(shared) => shared.as_slice(),
+        }
     }
 
     /// The text, lent.
@@ -65,12 +97,20 @@ impl Bytes {
         }
     }
 
-    /// One more owner of the same bytes. It fails only where the count of owners is full.
+    /// The same text once more. It fails only where the count of a longer text's owners is full.
     pub fn try_clone(&self) -> Result<Bytes, NoMemory>
         ensures { IfOk result (λ copy. copy ≡ self.now) }
     {
-        let shared = Arc::try_clone(&self.shared)?;
-        Ok(Bytes { shared })
+        match &self.kept {
+            Kept::Short(short) => {
+                let kept = Kept::Short(Short::from_slice(short.as_slice()));
+                Ok(Bytes { kept })
+            }
+            Kept::Long(shared) => {
+                let kept = Kept::Long(Arc::try_clone(shared)?);
+                Ok(Bytes { kept })
+            }
+        }
     }
 }
 

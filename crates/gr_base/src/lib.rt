@@ -9,6 +9,7 @@ mod list;
 mod memory;
 mod name;
 mod numbers;
+mod short;
 #[cfg(test)]
 mod tests;
 

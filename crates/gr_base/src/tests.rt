@@ -147,14 +147,16 @@ fn names_are_letters_digits_and_underscores(rt: HostRuntime) {
 #[test]
 fn texts_are_made_copied_and_ordered_by_their_bytes(rt: HostRuntime) -> Result<(), Fail> {
     let alloc = rt.alloc();
-    let from_vec = Bytes::from_vec(alloc, Vec::from_slice(alloc, b"ab")?)?;
-    let from_slice = Bytes::from_slice(alloc, b"ab")?;
-    let from_string = Bytes::from_string(alloc, String::from_str(alloc, "ab")?)?;
-    let copy = from_string.try_clone()?;
-    drop(from_string);
-    for text in [&from_vec, &from_slice, &copy] {
-        assert_eq!(rt; text.as_slice(), b"ab".as_slice());
-        assert!(rt; *text == from_vec);
+    for text in ["ab", "fourteen bytes", "fifteen bytes !"] {
+        let from_vec = Bytes::from_vec(alloc, Vec::from_slice(alloc, text.as_bytes())?)?;
+        let from_slice = Bytes::from_slice(alloc, text.as_bytes())?;
+        let from_string = Bytes::from_string(alloc, String::from_str(alloc, text)?)?;
+        let copy = from_string.try_clone()?;
+        drop(from_string);
+        for made in [&from_vec, &from_slice, &copy] {
+            assert_eq!(rt; made.as_slice(), text.as_bytes());
+            assert!(rt; *made == from_vec);
+        }
     }
     let rising: [&[u8]; 6] = [b"", b"A", b"a", b"ab", b"b", b"\xff"];
     for pair in rising.windows(2) {
