@@ -4,4 +4,7 @@ pub mod Quoted
 pub mod Names
 pub mod Utf8
 pub mod Cuts
+pub mod Next
 pub mod OneFault
+pub mod Turning
+pub mod Grammar

@@ -4,3 +4,6 @@ pub mod Paths
 pub mod Digits
 pub mod Cut
 pub mod Wrong
+pub mod Lexing
+pub mod Reading
+pub mod Sentences

@@ -4,7 +4,10 @@
 mod blanks;
 mod digits;
 mod fault;
+mod lexer;
 mod paths;
+mod reader;
+mod stop;
 mod strings;
 #[cfg(test)]
 mod tests;
@@ -12,5 +15,8 @@ mod tests;
 pub use blanks::{blanks_len, is_blank};
 pub use digits::{digits_len, number_from};
 pub use fault::TextFault;
+pub use lexer::{Found, Lexeme, Lexer, Token};
 pub use paths::{is_name_start, path_len};
+pub use reader::Reader;
+pub use stop::Stop;
 pub use strings::string_from;
