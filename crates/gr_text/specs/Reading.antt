@@ -74,6 +74,7 @@ pub record Rules (T S X : Type 0) : Type 1 where
   pub start : S
   pub otherwise : FaultKind
 
+-- the rules of these parts, with where the reader begins told last
 abbrev pub rules_by : {T S X : Type 0} → (S → Placed T → Outcome S) → (S → Option X) → (T → Bool) → (T → Type 0) → FaultKind → S → Rules T S X
 rules_by step end lacks_value IsText otherwise start = record { step = step; end = end; lacks_value = lacks_value; IsText = IsText; start = start; otherwise = otherwise }
 
@@ -114,12 +115,11 @@ module _ {T S X : Type 0} (rules : Rules T S X) where
   Tells whole (Err (Refused kind at)) = Halts whole kind at
   Tells whole (Err NoMemory) = Unit {0}
 
--- what comes of a turn, where the reader stands so before it
-module _ {T S X : Type 0} (rules : Rules T S X) where
+  -- what comes of a turn, where the reader stands so before it
   abbrev pub Turned : Cut T → Result Progress TextFault → Cut T → S → Option ℕ → Type 0
-  Turned whole (Ok progress.Goes) now state valueless = Stands rules whole now state valueless
-  Turned whole (Ok progress.Ends) now state valueless = Stands rules whole now state valueless × (now.tokens ≡ []) × (now.stranger ≡ None)
-  Turned whole (Err fault) now state valueless = Tells rules whole (Err fault)
+  Turned whole (Ok progress.Goes) now state valueless = Stands whole now state valueless
+  Turned whole (Ok progress.Ends) now state valueless = Stands whole now state valueless × (now.tokens ≡ []) × (now.stranger ≡ None)
+  Turned whole (Err fault) now state valueless = Tells whole (Err fault)
 
 -- each turn but the last takes a token away
 abbrev pub Shrinks : {T : Type 0} → Result Progress TextFault → Cut T → Cut T → Type 0
