@@ -17,6 +17,6 @@ pub use digits::{digits_len, number_from};
 pub use fault::TextFault;
 pub use lexer::{Found, Lexeme, Lexer, Token};
 pub use paths::{is_name_start, path_len};
-pub use reader::Reader;
+pub use reader::{Reader, read};
 pub use stop::Stop;
 pub use strings::string_from;
