@@ -5,6 +5,8 @@ ghost use Rattle.gr_text.specs.Characters.{is_name_rest, is_name_start};
 ghost use Rattle.gr_text.specs.Paths.{name_len, names_len, path_len};
 
 /// The length of the path that the bytes begin with, as long as it goes, 0 for none.
+// Inlined, this loop would make its caller keep each token in memory.
+#[inline(never)]
 pub fn path_len(bytes: &[u8]) -> usize
     ensures exact { result ≡ path_len bytes.now }
     ensures within { result ≤ length bytes.now }

@@ -7,6 +7,8 @@ use gr_base::{Bytes, NoMemory};
 use std::alloc::Global;
 
 /// What stands after an opening `"`: the text meant, and how many bytes it takes with its closing `"`. `None` where none closes it.
+// Inlined, this loop would make its caller keep each token in memory.
+#[inline(never)]
 pub fn string_from(alloc: Global, bytes: &[u8]) -> Result<Option<(Bytes, usize)>, NoMemory>
     ensures exact { IfOk result (λ found. found ≡ string_from bytes.now) }
     ensures within { IfOk result (λ found. IfSome found (λ string. string.1 ≤ length bytes.now)) }
