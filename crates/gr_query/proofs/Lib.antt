@@ -1,10 +1,7 @@
 pub mod Steps
 pub mod Queries
-pub mod Levels
-pub mod Faults
-pub mod Answer
 pub mod Making
+pub mod Fitting
 pub mod Running
-pub mod Turning
-pub mod Next
 pub mod Ends
+pub mod Stretches

@@ -14,7 +14,7 @@ use Rattle.gr_query.specs.Lexing.{IsText}
 use Rattle.gr_query.specs.Made.{SeeksWord, IsMadeLayer, AnyLink, AnyTerm, IsMade}
 use Rattle.gr_query.specs.Rows.{link, chain}
 use Rattle.gr_query.specs.Token.{Lexeme}
-use Rattle.gr_query.specs.Turns.{AreText}
+use Rattle.gr_text.specs.Reading.{AreText}
 
 abbrev MadeLink : Type 0
 MadeLink = (link : Joined) × every-Joined IsMadeLayer AnyTerm AnyLink link
@@ -56,18 +56,18 @@ joined {xs} {ys} a b = go a.0 a.1
 
 mutual
   -- what is read of texts is the tree of a query, and what is left is texts
-  made_query : {levels : ℕ} {ts rest : List Lexeme} {tree : Ast} {at : ℕ} → ReadsQuery levels ts tree at rest → AreText ts → IsMade tree × AreText rest
+  made_query : {levels : ℕ} {ts rest : List Lexeme} {tree : Ast} {at : ℕ} → ReadsQuery levels ts tree at rest → AreText IsText ts → IsMade tree × AreText IsText rest
   made_query (a_query {first = first} {links = links} f l) h =
       let m = made_first f h in
       let n = made_follow l m.1 in
       (made_chain first.at first.first (first.links ++ links) (m.0).first (joined (m.0).links n.0), n.1)
 
-  made_first : {levels : ℕ} {ts rest : List Lexeme} {row : Row} → ReadsFirst levels ts row rest → AreText ts → MadeRow row × AreText rest
+  made_first : {levels : ℕ} {ts rest : List Lexeme} {row : Row} → ReadsFirst levels ts row rest → AreText IsText ts → MadeRow row × AreText IsText rest
   made_first (no_sign u) h = let m = made_unit u h in (record { first = m.0; links = ([], refl) }, m.1)
   made_first (a_plus e u) h = let m = made_unit u h.1 in (record { first = m.0; links = ([], refl) }, m.1)
   made_first (a_minus {t = t} {tree = tree} e u) h = let m = made_unit u h.1 in (record { first = made_all t.at; links = with_link join.Without tree m.0 ([], refl) }, m.1)
 
-  made_follow : {levels : ℕ} {ts rest : List Lexeme} {links : List Joined} → ReadsFollow levels ts links rest → AreText ts → AreMade links × AreText rest
+  made_follow : {levels : ℕ} {ts rest : List Lexeme} {links : List Joined} → ReadsFollow levels ts links rest → AreText IsText ts → AreMade links × AreText IsText rest
   made_follow no_follow h = (([], refl), h)
   made_follow (a_unit {tree = tree} u l) h =
       let m = made_unit u h in
@@ -78,10 +78,10 @@ mutual
       let n = made_follow l m.1 in
       (with_link join tree m.0 n.0, n.1)
 
-  made_unit : {levels : ℕ} {ts rest : List Lexeme} {tree : Ast} {at : ℕ} → ReadsUnit levels ts tree at rest → AreText ts → IsMade tree × AreText rest
+  made_unit : {levels : ℕ} {ts rest : List Lexeme} {tree : Ast} {at : ℕ} → ReadsUnit levels ts tree at rest → AreText IsText ts → IsMade tree × AreText IsText rest
   made_unit (a_word {t = t} {seek = seek} {text = text} e) h = (made_word t.at seek text (subst IsText e h.0), h.1)
   made_unit (a_field {t = t} {path = path} {text = text} {test = test} e) h = (made_field t.at path test text (subst IsText e h.0), h.1)
   made_unit (a_group e q c) h = let m = made_query q h.1 in (m.0, (m.1).1)
 
-pub made_sentence : {levels : ℕ} {ts : List Lexeme} {tree : Ast} → Sentence levels ts tree → AreText ts → IsMade tree
+pub made_sentence : {levels : ℕ} {ts : List Lexeme} {tree : Ast} → Sentence levels ts tree → AreText IsText ts → IsMade tree
 made_sentence s h = (made_query s.1 h).0

@@ -1,38 +1,33 @@
 -- Queries, and what begins one, are what the reader goes through.
-use Rattle.std.proofs.Common.{◌≡◌, ℕ, suc, List, [], ◌∷◌, ◌++◌, append-nil, Option, Some, None, refl, sym, ◌∙◌, ap, subst}
+use Rattle.std.proofs.Common.{◌≡◌, ℕ, suc, List, [], ◌∷◌, ◌++◌, append-nil, Some, None, refl, sym, ◌∙◌, ap, subst}
 use Rattle.gr_expr.specs.declared.ast.Ast.{Ast}
 use Rattle.gr_expr.specs.declared.ast.Ast.TheVariants as ast
 use Rattle.gr_expr.specs.declared.ast.Joined.{Joined}
 use Rattle.gr_expr.specs.declared.ast.Seek.TheVariants as seek
 use Rattle.gr_query.specs.declared.frame.Before.{Before}
-use Rattle.gr_query.specs.declared.frame.Phase.{Phase}
-use Rattle.gr_query.specs.declared.frame.Phase.TheVariants.{Begin, Want, Have}
 use Rattle.gr_query.specs.declared.frame.Row.{Row}
 use Rattle.gr_query.specs.declared.token.Token.TheVariants.{Close, Word}
-use Rattle.gr_query.specs.Grammar.{ReadsQuery, a_query, ReadsFirst, no_sign, ReadsFollow, no_follow, a_unit, ReadsUnit, a_word, Sentence, Begins}
-use Rattle.gr_query.specs.Machine.{begin, Outcome, goes, deep, wrong, placed, step, run, finished}
+use Rattle.gr_query.specs.Grammar.{ReadsQuery, a_query, ReadsFirst, no_sign, ReadsFollow, no_follow, a_unit, ReadsUnit, a_word, Sentence}
+use Rattle.gr_query.specs.Machine.{Phase, Begin, Want, Have, State, state, placed, step, step_of, begin, finished, finish_of}
 use Rattle.gr_query.specs.Rows.{alone, with_links, tree_of}
 use Rattle.gr_query.specs.Token.{Lexeme}
 use Rattle.gr_query.proofs.Steps.{Ends, at_end, at_close, Completes, Starts, Goes, GoesOn, with_links-nil, step_to, step_from}
+use Rattle.gr_text.proofs.Grammar.{IsGoing, end_of}
+use Rattle.gr_text.specs.Reading.{Outcome, goes, deep, wrong, run}
+use Rattle.gr_text.specs.Sentences.{Begins}
 
 -- what finishes the query with these tokens first finishes it behind them
-run_to : (w : Ast) (ts more : List Lexeme) (o : Outcome) → GoesOn w o (ts ++ more) → GoesOn w (run o ts) more
+run_to : (w : Ast) (ts more : List Lexeme) (o : Outcome State) → GoesOn w o (ts ++ more) → GoesOn w (run step_of o ts) more
 run_to w [] more o m = m
-run_to w (t ∷ ts) more (goes phase frames levels) m = run_to w ts more (step phase frames levels t) (step_to w phase frames levels t (ts ++ more) m)
+run_to w (t ∷ ts) more (goes (state phase frames levels)) m = run_to w ts more (step phase frames levels t) (step_to w phase frames levels t (ts ++ more) m)
 run_to w (t ∷ ts) more deep m = m
 run_to w (t ∷ ts) more wrong m = m
 
-run_from : (w : Ast) (ts more : List Lexeme) (o : Outcome) → GoesOn w (run o ts) more → GoesOn w o (ts ++ more)
+run_from : (w : Ast) (ts more : List Lexeme) (o : Outcome State) → GoesOn w (run step_of o ts) more → GoesOn w o (ts ++ more)
 run_from w [] more o m = m
-run_from w (t ∷ ts) more (goes phase frames levels) m = step_from w phase frames levels t (ts ++ more) (run_from w ts more (step phase frames levels t) m)
+run_from w (t ∷ ts) more (goes (state phase frames levels)) m = step_from w phase frames levels t (ts ++ more) (run_from w ts more (step phase frames levels t) m)
 run_from w (t ∷ ts) more deep m = m
 run_from w (t ∷ ts) more wrong m = m
-
--- the tree of a query that ends with an outcome
-abbrev pub end_of : Outcome → Option Ast
-end_of (goes phase frames levels) = finished phase frames
-end_of deep = None
-end_of wrong = None
 
 some_is : {a b : Ast} → Some a ≡ Some b → a ≡ b
 some_is h = cc
@@ -61,13 +56,13 @@ ended_from w (Want before) frames levels e = absurd (none_is e)
 ended_from w (Have row) [] levels e = record { links = []; rest = []; follows = no_follow; ends = at_end (ap tree_of (with_links-nil row) ∙ some_is e) }
 ended_from w (Have row) (before ∷ frames) levels e = absurd (none_is e)
 
-end_to : (w : Ast) (o : Outcome) → GoesOn w o [] → end_of o ≡ Some w
-end_to w (goes phase frames levels) m = ended_to w phase frames levels m
+end_to : (w : Ast) (o : Outcome State) → GoesOn w o [] → end_of finish_of o ≡ Some w
+end_to w (goes (state phase frames levels)) m = ended_to w phase frames levels m
 end_to w deep m = absurd m
 end_to w wrong m = absurd m
 
-end_from : (w : Ast) (o : Outcome) → end_of o ≡ Some w → GoesOn w o []
-end_from w (goes phase frames levels) e = ended_from w phase frames levels e
+end_from : (w : Ast) (o : Outcome State) → end_of finish_of o ≡ Some w → GoesOn w o []
+end_from w (goes (state phase frames levels)) e = ended_from w phase frames levels e
 end_from w deep e = none_is e
 end_from w wrong e = none_is e
 
@@ -84,25 +79,16 @@ goes_sentence levels ts w m = go m.reads (m.completes).follows (m.completes).end
     go {first} f l (at_end e) = (first.at, subst (λ tree. ReadsQuery levels ts tree first.at []) e (a_query f l))
 
 -- the tokens are a query exactly where the reader ends with its tree
-pub sentence_to : (levels : ℕ) (ts : List Lexeme) (w : Ast) → Sentence levels ts w → end_of (run (begin levels) ts) ≡ Some w
+pub sentence_to : (levels : ℕ) (ts : List Lexeme) (w : Ast) → Sentence levels ts w → end_of finish_of (run step_of (goes (begin levels)) ts) ≡ Some w
 sentence_to levels ts w s =
-    end_to w (run (begin levels) ts) (run_to w ts [] (begin levels) (subst (λ us. Starts w [] levels us) (sym (append-nil ts)) (sentence_goes levels ts w s)))
+    end_to w (run step_of (goes (begin levels)) ts) (run_to w ts [] (goes (begin levels)) (subst (λ us. Starts w [] levels us) (sym (append-nil ts)) (sentence_goes levels ts w s)))
 
-pub sentence_from : (levels : ℕ) (ts : List Lexeme) (w : Ast) → end_of (run (begin levels) ts) ≡ Some w → Sentence levels ts w
+pub sentence_from : (levels : ℕ) (ts : List Lexeme) (w : Ast) → end_of finish_of (run step_of (goes (begin levels)) ts) ≡ Some w → Sentence levels ts w
 sentence_from levels ts w e =
-    goes_sentence levels ts w (subst (λ us. Starts w [] levels us) (append-nil ts) (run_from w ts [] (begin levels) (end_from w (run (begin levels) ts) e)))
+    goes_sentence levels ts w (subst (λ us. Starts w [] levels us) (append-nil ts) (run_from w ts [] (goes (begin levels)) (end_from w (run step_of (goes (begin levels)) ts) e)))
 
--- the tokens have one tree at most
-pub one_tree : (levels : ℕ) (ts : List Lexeme) (x y : Ast) → Sentence levels ts x → Sentence levels ts y → x ≡ y
-one_tree levels ts x y a b = some_is (sym (sentence_to levels ts x a) ∙ sentence_to levels ts y b)
-
-abbrev pub IsGoing : Outcome → Type 0
-IsGoing (goes phase frames levels) = Unit {0}
-IsGoing deep = ⊥
-IsGoing wrong = ⊥
-
-going : (w : Ast) (ts : List Lexeme) (o : Outcome) → GoesOn w o ts → IsGoing o
-going w ts (goes phase frames levels) m = tt
+going : (w : Ast) (ts : List Lexeme) (o : Outcome State) → GoesOn w o ts → IsGoing o
+going w ts (goes (state phase frames levels)) m = tt
 going w ts deep m = m
 going w ts wrong m = m
 
@@ -156,13 +142,13 @@ ending (Have row) frames levels =
     record { whole = f.whole; ts = f.ts; goes_on = having frames levels row f }
 
 -- the tokens begin a query exactly where the reader goes on behind them
-pub begins_to : (levels : ℕ) (ts : List Lexeme) → Begins levels ts → IsGoing (run (begin levels) ts)
-begins_to levels ts b = going b.1 b.0 (run (begin levels) ts) (run_to b.1 ts b.0 (begin levels) (sentence_goes levels (ts ++ b.0) b.1 b.2))
+pub begins_to : (levels : ℕ) (ts : List Lexeme) → Begins Sentence levels ts → IsGoing (run step_of (goes (begin levels)) ts)
+begins_to levels ts b = going b.1 b.0 (run step_of (goes (begin levels)) ts) (run_to b.1 ts b.0 (goes (begin levels)) (sentence_goes levels (ts ++ b.0) b.1 b.2))
 
-pub begins_from : (levels : ℕ) (ts : List Lexeme) → IsGoing (run (begin levels) ts) → Begins levels ts
-begins_from levels ts g = go (run (begin levels) ts) g (λ w more m. run_from w ts more (begin levels) m)
+pub begins_from : (levels : ℕ) (ts : List Lexeme) → IsGoing (run step_of (goes (begin levels)) ts) → Begins Sentence levels ts
+begins_from levels ts g = go (run step_of (goes (begin levels)) ts) g (λ w more m. run_from w ts more (goes (begin levels)) m)
   where
-    go : (o : Outcome) → IsGoing o → ((w : Ast) (more : List Lexeme) → GoesOn w o more → Starts w [] levels (ts ++ more)) → Begins levels ts
-    go (goes phase frames left) g back = let e = ending phase frames left in (e.ts, e.whole, goes_sentence levels (ts ++ e.ts) e.whole (back e.whole e.ts e.goes_on))
+    go : (o : Outcome State) → IsGoing o → ((w : Ast) (more : List Lexeme) → GoesOn w o more → Starts w [] levels (ts ++ more)) → Begins Sentence levels ts
+    go (goes (state phase frames left)) g back = let e = ending phase frames left in (e.ts, e.whole, goes_sentence levels (ts ++ e.ts) e.whole (back e.whole e.ts e.goes_on))
     go deep g back = absurd g
     go wrong g back = absurd g

@@ -7,15 +7,14 @@ use Rattle.gr_expr.specs.declared.ast.Join.TheVariants as join
 use Rattle.gr_expr.specs.declared.ast.Joined.{Joined}
 use Rattle.gr_query.specs.declared.frame.Before.{Before}
 use Rattle.gr_query.specs.declared.frame.Before.TheVariants as before
-use Rattle.gr_query.specs.declared.frame.Phase.{Phase}
-use Rattle.gr_query.specs.declared.frame.Phase.TheVariants.{Begin, Want, Have}
 use Rattle.gr_query.specs.declared.frame.Row.{Row}
 use Rattle.gr_query.specs.declared.token.Token.{Token}
 use Rattle.gr_query.specs.declared.token.Token.TheVariants.{Open, Close, Plus, Minus, Or, Word, Field}
 use Rattle.gr_query.specs.Grammar.{join_of, ReadsQuery, a_query, ReadsFirst, no_sign, a_plus, a_minus, ReadsFollow, no_follow, a_unit, a_join, ReadsUnit, a_word, a_field, a_group}
-use Rattle.gr_query.specs.Machine.{Outcome, goes, deep, wrong, placed, open_on, unit_on, first_on, close_on, follow_on, step}
+use Rattle.gr_query.specs.Machine.{Phase, Begin, Want, Have, State, state, placed, open_on, unit_on, first_on, close_on, follow_on, step}
 use Rattle.gr_query.specs.Rows.{link, alone, with_links, tree_of}
 use Rattle.gr_query.specs.Token.{Lexeme}
+use Rattle.gr_text.specs.Reading.{Outcome, goes, deep, wrong}
 
 -- Behind a row that is whole, in these open brackets, the tokens finish a query of the whole tree.
 pub data Ends (w : Ast) : List Before → ℕ → Row → List Lexeme → Type 0 where
@@ -50,8 +49,8 @@ Goes w Begin frames levels ts = Starts w frames levels ts
 Goes w (Want before) frames levels ts = Wants w before frames levels ts
 Goes w (Have row) frames levels ts = Completes w frames levels row ts
 
-abbrev pub GoesOn : Ast → Outcome → List Lexeme → Type 0
-GoesOn w (goes phase frames levels) ts = Goes w phase frames levels ts
+abbrev pub GoesOn : Ast → Outcome State → List Lexeme → Type 0
+GoesOn w (goes (state phase frames levels)) ts = Goes w phase frames levels ts
 GoesOn w deep ts = ⊥
 GoesOn w wrong ts = ⊥
 

@@ -1,5 +1,5 @@
 -- The grammar of queries, as relations between tokens and trees.
-use Rattle.std.specs.Prelude.{◌≡◌, ℕ, suc, Option, Some, None, List, [], ◌∷◌, ◌++◌}
+use Rattle.std.specs.Prelude.{◌≡◌, ℕ, suc, Option, Some, None, List, [], ◌∷◌}
 use Rattle.gr_expr.specs.declared.ast.Ast.{Ast}
 use Rattle.gr_expr.specs.declared.ast.Ast.TheVariants as ast
 use Rattle.gr_expr.specs.declared.ast.FieldOp.{FieldOp}
@@ -46,7 +46,3 @@ mutual
 -- the tokens are a query with at most so many brackets round a place, of this tree
 abbrev pub Sentence : ℕ → List Lexeme → Ast → Type 0
 Sentence levels ts tree = (at : ℕ) × ReadsQuery levels ts tree at []
-
--- the tokens, or these and some more, are a query with at most so many brackets round a place
-abbrev pub Begins : ℕ → List Lexeme → Type 0
-Begins levels ts = (more : List Lexeme) × (tree : Ast) × Sentence levels (ts ++ more) tree

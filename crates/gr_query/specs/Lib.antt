@@ -7,4 +7,3 @@ pub mod Text
 pub mod Made
 pub mod Lexing
 pub mod Machine
-pub mod Turns

@@ -1,25 +1,36 @@
 -- How a query is read from the left in one pass: by a stack of brackets that are open.
-use Rattle.std.specs.Prelude.{ℕ, zero, suc, List, [], ◌∷◌, Option, Some, None, Result, Ok, Err, ◌≡◌}
+use Rattle.std.specs.Prelude.{ℕ, zero, suc, List, [], ◌∷◌, Option, Some, None}
 use Rattle.gr_expr.specs.declared.ast.Ast.{Ast}
 use Rattle.gr_expr.specs.declared.ast.Ast.TheVariants as ast
+use Rattle.gr_expr.specs.declared.ast.Join.{Join}
 use Rattle.gr_expr.specs.declared.ast.Join.TheVariants as join
 use Rattle.gr_query.specs.declared.frame.Before.{Before}
 use Rattle.gr_query.specs.declared.frame.Before.TheVariants as before
-use Rattle.gr_query.specs.declared.frame.Phase.{Phase}
-use Rattle.gr_query.specs.declared.frame.Phase.TheVariants.{Begin, Want, Have}
+use Rattle.gr_query.specs.declared.frame.Next.{Next}
+use Rattle.gr_query.specs.declared.frame.Next.TheVariants as next
 use Rattle.gr_query.specs.declared.frame.Row.{Row}
-use Rattle.gr_query.specs.declared.stop.Stop.{Stop}
-use Rattle.gr_query.specs.declared.stop.Stop.TheVariants as stop
 use Rattle.gr_query.specs.declared.token.Token.{Token}
 use Rattle.gr_query.specs.declared.token.Token.TheVariants.{Open, Close, Plus, Minus, Or, Word, Field}
 use Rattle.gr_query.specs.Rows.{link, alone, with_links, tree_of}
 use Rattle.gr_query.specs.Token.{Lexeme}
+use Rattle.gr_text.specs.Reading.{Outcome, goes, deep, wrong}
 
--- what comes of a token: what comes next, the brackets that are open with what stands before each, and how many more may be opened
-pub data Outcome : Type 0 where
-  goes : Phase → List Before → ℕ → Outcome
-  deep : Outcome
-  wrong : Outcome
+-- what comes next: a sign or a unit, with which a query begins; a unit, behind this; or what may follow the units of this row
+pub data Phase : Type 0 where
+  Begin : Phase
+  Want : Before → Phase
+  Have : Row → Phase
+
+-- what comes next, the brackets that are open with what stands before each, and how many more may be opened
+pub data State : Type 0 where
+  state : Phase → List Before → ℕ → State
+
+-- what comes next, where this is read of the last bracket
+abbrev pub phase_of : Next → Row → Phase
+phase_of next.Begin row = Begin
+phase_of (next.Plus at) row = Want (before.Plus at)
+phase_of (next.Joins join) row = Want (before.Joins row join)
+phase_of next.Have row = Have row
 
 -- a unit of this tree, whose first token that is no opening bracket is at this place, behind what stands before it
 abbrev pub placed : Before → ℕ → Ast → Row
@@ -28,73 +39,78 @@ placed (before.Plus sign) at tree = alone sign tree
 placed (before.Joins of join) at tree = with_links of (link join tree ∷ [])
 
 -- an opening bracket
-abbrev pub open_on : Before → List Before → ℕ → Outcome
+abbrev pub open_on : Before → List Before → ℕ → Outcome State
 open_on before frames zero = deep
-open_on before frames (suc left) = goes Begin (before ∷ frames) left
+open_on before frames (suc left) = goes (state Begin (before ∷ frames) left)
 
 -- a unit begins
-abbrev pub unit_on : Before → List Before → ℕ → ℕ → Token → Outcome
+abbrev pub unit_on : Before → List Before → ℕ → ℕ → Token → Outcome State
 unit_on before frames left at Open = open_on before frames left
-unit_on before frames left at (Word seek text) = goes (Have (placed before at (ast.Word at seek text))) frames left
-unit_on before frames left at (Field path test text) = goes (Have (placed before at (ast.FieldTest at path test text))) frames left
+unit_on before frames left at (Word seek text) = goes (state (Have (placed before at (ast.Word at seek text))) frames left)
+unit_on before frames left at (Field path test text) = goes (state (Have (placed before at (ast.FieldTest at path test text))) frames left)
 unit_on before frames left at _ = wrong
 
 -- a query begins
-abbrev pub first_on : List Before → ℕ → ℕ → Token → Outcome
-first_on frames left at Plus = goes (Want (before.Plus at)) frames left
-first_on frames left at Minus = goes (Want (before.Joins (alone at (ast.All at)) join.Without)) frames left
+abbrev pub first_on : List Before → ℕ → ℕ → Token → Outcome State
+first_on frames left at Plus = goes (state (Want (before.Plus at)) frames left)
+first_on frames left at Minus = goes (state (Want (before.Joins (alone at (ast.All at)) join.Without)) frames left)
 first_on frames left at token = unit_on before.Nothing frames left at token
 
 -- a closing bracket behind this row
-abbrev pub close_on : Row → List Before → ℕ → Outcome
+abbrev pub close_on : Row → List Before → ℕ → Outcome State
 close_on row [] left = wrong
-close_on row (before ∷ frames) left = goes (Have (placed before row.at (tree_of row))) frames (suc left)
+close_on row (before ∷ frames) left = goes (state (Have (placed before row.at (tree_of row))) frames (suc left))
 
 -- a token behind this row
-abbrev pub follow_on : Row → List Before → ℕ → ℕ → Token → Outcome
-follow_on row frames left at Plus = goes (Want (before.Joins row join.And)) frames left
-follow_on row frames left at Minus = goes (Want (before.Joins row join.Without)) frames left
-follow_on row frames left at Or = goes (Want (before.Joins row join.Or)) frames left
+abbrev pub follow_on : Row → List Before → ℕ → ℕ → Token → Outcome State
+follow_on row frames left at Plus = goes (state (Want (before.Joins row join.And)) frames left)
+follow_on row frames left at Minus = goes (state (Want (before.Joins row join.Without)) frames left)
+follow_on row frames left at Or = goes (state (Want (before.Joins row join.Or)) frames left)
 follow_on row frames left at Close = close_on row frames left
 follow_on row frames left at token = unit_on (before.Joins row join.And) frames left at token
 
 -- the next token
-abbrev pub step : Phase → List Before → ℕ → Lexeme → Outcome
+abbrev pub step : Phase → List Before → ℕ → Lexeme → Outcome State
 step Begin frames left t = first_on frames left t.at t.token
 step (Want before) frames left t = unit_on before frames left t.at t.token
 step (Have row) frames left t = follow_on row frames left t.at t.token
 
--- tokens, from the left
-abbrev pub run : Outcome → List Lexeme → Outcome
-run outcome [] = outcome
-run (goes phase frames left) (t ∷ ts) = run (step phase frames left t) ts
-run deep (t ∷ ts) = deep
-run wrong (t ∷ ts) = wrong
+-- the next token, wherever the reader stands
+abbrev pub step_of : State → Lexeme → Outcome State
+step_of (state phase frames left) t = step phase frames left t
+
+-- what stands before a unit that comes next
+abbrev pub before_of : Phase → Before
+before_of Begin = before.Nothing
+before_of (Want before) = before
+before_of (Have row) = before.Joins row join.And
+
+-- a unit alone is read, where the first token that is no opening bracket is at this place
+abbrev pub with_first : State → ℕ → Ast → State
+with_first (state phase frames left) at tree = state (Have (alone at tree)) frames left
+
+-- a unit of this tree is read
+abbrev pub with_unit : State → ℕ → Ast → State
+with_unit (state phase frames left) at tree = state (Have (placed (before_of phase) at tree)) frames left
+
+-- what joins the next unit so to those of a row
+abbrev pub joined : State → Join → Outcome State
+joined (state (Have row) frames left) join = goes (state (Want (before.Joins row join)) frames left)
+joined _ join = wrong
 
 -- before the first token, with so many brackets to open
-abbrev pub begin : ℕ → Outcome
-begin levels = goes Begin [] levels
+abbrev pub begin : ℕ → State
+begin levels = state Begin [] levels
 
 -- the tree of a query that ends here
 abbrev pub finished : Phase → List Before → Option Ast
 finished (Have row) [] = Some (tree_of row)
 finished _ _ = None
 
--- What a step answers is this outcome, with these brackets open and so many left, unless memory ran out.
-abbrev pub Answers : Result Phase Stop → List Before → ℕ → Outcome → Type 0
-Answers (Ok phase) frames left outcome = outcome ≡ goes phase frames left
-Answers (Err stop.Deep) frames left outcome = outcome ≡ deep
-Answers (Err stop.Wrong) frames left outcome = outcome ≡ wrong
-Answers (Err stop.NoMemory) frames left outcome = Unit {0}
+-- the same, wherever the reader stands
+abbrev pub finish_of : State → Option Ast
+finish_of (state phase frames left) = finished phase frames
 
--- what the end answers is this tree, or that there is none, unless memory ran out
-abbrev pub Finishes : Result Ast Stop → Option Ast → Type 0
-Finishes (Ok tree) end = end ≡ Some tree
-Finishes (Err stop.Deep) end = ⊥
-Finishes (Err stop.Wrong) end = end ≡ None
-Finishes (Err stop.NoMemory) end = Unit {0}
-
--- a unit is read, which makes this row, unless memory ran out
-abbrev pub Has : Result Phase Stop → Row → Type 0
-Has (Ok phase) row = phase ≡ Have row
-Has (Err why) row = why ≡ stop.NoMemory
+-- one bracket more may be opened
+abbrev pub raise : State → State
+raise (state phase frames left) = state phase frames (suc left)

@@ -1,7 +1,8 @@
 -- Runs as the code has them.
-use Rattle.std.specs.Prelude.{◌≡◌, ℕ, List, [], ◌∷◌, ◌++◌}
+use Rattle.std.specs.Prelude.{◌≡◌, ℕ, ◌-◌, ◌<◌, ◌==◌, ◌&&◌, nat_lt, false, codes, List, [], ◌∷◌, ◌++◌, length, slice_index, take}
+use Rattle.std.specs.Str.{byte, bytes_eq}
 use Rattle.gr_query.specs.declared.runs.Run.{Run as Read}
-use Rattle.gr_query.specs.Runs.{Run}
+use Rattle.gr_query.specs.Runs.{Run, run_from}
 
 -- a run that was read
 abbrev pub shown_run : Read → Run
@@ -11,3 +12,12 @@ shown_run run = record { text = run.text.items; len = run.len; is_starred = run.
 pub record EndsInStar (text : List ℕ) : Type 0 where
   pub front : List ℕ
   pub parts : text ≡ front ++ 42 ∷ []
+
+-- a run of these bytes, none of which is an escape
+abbrev pub unescaped : List ℕ → Run
+unescaped bytes = record { text = bytes; len = length bytes; is_starred = nat_lt 0 (length bytes) && slice_index bytes (length bytes - 1) == byte "*" }
+
+-- An escape stands in the run that the bytes begin with. So the run is longer than its last character, and it is not the word OR.
+pub record HasEscape (bytes : List ℕ) : Type 0 where
+  pub long : 1 < (run_from bytes).len
+  pub other : bytes_eq (take ((run_from bytes).len) bytes) (codes "OR") ≡ false

@@ -1,5 +1,5 @@
 -- Runs: characters in a row, with escapes among them.
-use Rattle.std.specs.Prelude.{ℕ, ◌+◌, ◌==◌, ◌||◌, not, Bool, true, false, if◌then◌else◌, List, [], ◌∷◌}
+use Rattle.std.specs.Prelude.{ℕ, ◌+◌, ◌==◌, ◌||◌, ◌&&◌, not, nat_lt, Bool, true, false, if◌then◌else◌, List, [], ◌∷◌, length, slice_index}
 use Rattle.std.specs.Str.{byte}
 use Rattle.gr_text.specs.Characters.{is_blank}
 
@@ -12,6 +12,10 @@ pub record Run : Type 0 where
 -- a character that stands for itself in a run
 abbrev pub is_run : ℕ → Bool
 is_run c = not (is_blank c || c == byte "\"" || c == byte "(" || c == byte ")" || c == byte "\\")
+
+-- a `\` stands first, and a character behind it
+abbrev pub begins_escape : List ℕ → Bool
+begins_escape bytes = nat_lt 1 (length bytes) && slice_index bytes 0 == byte "\\"
 
 abbrev pub no_run : Run
 no_run = record { text = []; len = 0; is_starred = false }

@@ -3,10 +3,11 @@ ghost use Rattle.std.specs.Prelude.{◌≡◌, ◌+◌, ◌-◌, ◌^◌, ◌<�
 ghost use Rattle.gr_text.specs.Paths.{path_len};
 ghost use Rattle.gr_text.specs.Strings.{string_from};
 ghost use Rattle.gr_query.specs.Lexing.{IsHeldBehind, IsTextHeld};
+ghost use Rattle.gr_query.specs.Reading.{HasEscape};
 ghost use Rattle.gr_query.specs.Runs.{run_from};
 ghost use Rattle.gr_query.specs.Token.{begins_field, field_with, longer, op_at, phrase, some_run, text_at};
 
-use crate::runs::run_from;
+use crate::runs::{run_from, stretch};
 use crate::token::Token;
 use gr_base::{Bytes, Cmp, NoMemory};
 use gr_expr::{FieldOp, Seek};
@@ -135,9 +136,20 @@ fn some_run(alloc: Global, bytes: &[u8]) -> Result<MaybeText, NoMemory>
     ensures exact { IfOk result (λ found. found ≡ some_run (run_from bytes.now)) }
     ensures held { IfOk result (λ found. IfSome found (IsTextHeld bytes.now)) }
 {
-    let run = run_from(alloc, bytes)?;
-    if run.len == 0 {
-        return Ok(None);
+    match stretch(bytes) {
+        Some([]) => Ok(None),
+        Some(run) => Ok(Some((Bytes::from_slice(alloc, run)?, run.len()))),
+        None => escaped_text(alloc, bytes),
     }
+}
+
+/// What a run with an escape means.
+fn escaped_text(alloc: Global, bytes: &[u8]) -> Result<MaybeText, NoMemory>
+    requires text { IsUtf8 bytes.now }
+    requires escaped { HasEscape bytes.now }
+    ensures exact { IfOk result (λ found. found ≡ some_run (run_from bytes.now)) }
+    ensures held { IfOk result (λ found. IfSome found (IsTextHeld bytes.now)) }
+{
+    let run = run_from(alloc, bytes)?;
     Ok(Some((Bytes::from_vec(alloc, run.text)?, run.len)))
 }

@@ -25,13 +25,15 @@ pub(crate) enum Before {
     Joins(Row, Join),
 }
 
-/// What comes next.
-#[derive(Drop)]
-pub(crate) enum Phase {
+/// What comes next, in the last bracket.
+#[derive(Clone, Copy)]
+pub(crate) enum Next {
     /// A sign or a unit, with which a query begins.
     Begin,
-    /// A unit, behind this.
-    Want(Before),
-    /// What may follow the units of this row.
-    Have(Row),
+    /// The first unit, behind a `+` at this place.
+    Plus(u64),
+    /// A unit that is joined so to those of the row.
+    Joins(Join),
+    /// What may follow the units of the row.
+    Have,
 }

@@ -3,17 +3,13 @@
 
 mod fields;
 mod frame;
-mod lexer;
 mod query;
 mod reader;
 mod rows;
 mod runs;
-mod stack;
-mod stop;
 #[cfg(test)]
 mod tests;
 mod token;
 mod tokenizer;
-mod turn;
 
 pub use query::{one_answer, parse};

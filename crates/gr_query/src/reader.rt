@@ -1,127 +1,219 @@
 // How a query is read from the left in one pass: a step for each token.
-ghost use Rattle.std.specs.Prelude.{◌≡◌, reverse, Err};
-ghost use Rattle.gr_query.specs.Lexing.{shown};
-ghost use Rattle.gr_query.specs.Machine.{Answers, Finishes, Has, close_on, finished, first_on, follow_on, placed, step, unit_on};
+ghost use Rattle.std.specs.Prelude.{◌≡◌, ℕ};
+ghost use Rattle.gr_query.specs.Machine.{begin, finish_of, joined, step_of, with_first, with_unit};
+ghost use Rattle.gr_query.specs.Text.{has_no_value};
+ghost use Rattle.gr_query.specs.declared.token.Token.TheVariants.{Close, Minus, Open, Plus};
+ghost use Rattle.gr_text.specs.Lexing.{placed};
+ghost use Rattle.gr_text.specs.Reading.{Answers, goes};
+ghost use Rattle.gr_text.specs.Wrong.{most_levels};
 
-use crate::frame::{Before, Phase, Row};
-use crate::rows::{alone, placed, tree_of};
-use crate::stack::Stack;
-use crate::stop::Stop;
-use crate::token::{Lexeme, Token};
+use crate::frame::{Before, Next, Row};
+use crate::rows::{alone, placed, push, tree_of, unread};
+use crate::token::Token;
 use gr_expr::{Ast, Join};
+use gr_text::{Lexeme, Reader, Stop};
 use std::alloc::Global;
+use std::marker::Model;
+use std::mem;
 
-/// The next token.
-pub(crate) fn step(
+/// Reads a query. At most 64 brackets are open.
+#[derive(Drop)]
+pub(crate) struct QueryReader {
     alloc: Global,
-    phase: Phase,
-    stack: &mut Stack,
-    lexeme: Lexeme,
-) -> Result<Phase, Stop>
-    ensures { Answers result (reverse stack.new.frames.items) stack.new.left (step phase (reverse stack.old.frames.items) stack.old.left (shown lexeme)) }
-{
-    let Lexeme { at, token } = lexeme;
-    match phase {
-        Phase::Begin => first(alloc, at, token, stack),
-        Phase::Want(before) => unit(alloc, before, at, token, stack),
-        Phase::Have(row) => follow(alloc, row, at, token, stack),
+    /// What comes next.
+    next: Next,
+    /// What is read of the last bracket, where a unit of it is.
+    row: Row,
+    /// What stands before each open bracket, the last one on top.
+    frames: Vec<Before>,
+    /// How many more brackets may be opened.
+    left: u64,
+}
+
+impl Model for QueryReader {
+    ghost use Rattle.std.specs.Prelude.{◌≡◌, ◌+◌, length, reverse};
+    ghost use Rattle.gr_query.specs.Machine.{State, phase_of, state};
+    ghost use Rattle.gr_expr.specs.contracts.ast.Ast as ast;
+    ghost use Rattle.std.specs.Coded.{codes};
+
+    ghost Value = { State };
+
+    ghost coded = { Prim.hlevel (codes, ast.the_row.coded) };
+
+    ghost view = { λ reader. state (phase_of reader.next reader.row) (reverse reader.frames.items) reader.left };
+
+    ghost invariant = { λ reader. reader.left + length reader.frames.items ≡ 64 };
+}
+
+impl QueryReader {
+    /// Nothing is read.
+    pub(crate) fn new(alloc: Global) -> QueryReader
+        ensures { result ≡ begin most_levels }
+    {
+        QueryReader {
+            alloc,
+            next: Next::Begin,
+            row: unread(alloc),
+            frames: Vec::new(alloc),
+            left: 64,
+        }
+    }
+
+    /// A unit that is no bracket.
+    // Inlined, so that the tree is written where it stays.
+    #[inline(always)]
+    fn unit(&mut self, at: u64, tree: Ast) -> Result<(), Stop>
+        ensures { Answers result self.new (goes (with_unit self.old at tree)) }
+    {
+        let join = match self.next {
+            Next::Begin => {
+                self.first(at, tree);
+                return Ok(());
+            }
+            Next::Plus(sign) => {
+                self.first(sign, tree);
+                return Ok(());
+            }
+            Next::Joins(join) => join,
+            Next::Have => Join::And,
+        };
+        push(&mut self.row, join, tree)?;
+        self.next = Next::Have;
+        Ok(())
+    }
+
+    /// The first unit of a bracket.
+    fn first(&mut self, at: u64, tree: Ast)
+        ensures { self.new ≡ with_first self.old at tree }
+    {
+        self.row = alone(self.alloc, at, tree);
+        self.next = Next::Have;
+    }
+
+    /// An opening bracket.
+    fn open(&mut self) -> Result<(), Stop>
+        ensures { (at : ℕ) → Answers result self.new (step_of self.old (record { at = at; token = Open })) }
+    {
+        if self.left == 0 {
+            return Err(Stop::Deep);
+        }
+        let row = mem::replace(&mut self.row, unread(self.alloc));
+        let before = match self.next {
+            Next::Begin => Before::Nothing,
+            Next::Plus(sign) => Before::Plus(sign),
+            Next::Joins(join) => Before::Joins(row, join),
+            Next::Have => Before::Joins(row, Join::And),
+        };
+        self.frames.push(before)?;
+        self.left -= 1;
+        self.next = Next::Begin;
+        Ok(())
+    }
+
+    /// A closing bracket.
+    fn close(&mut self) -> Result<(), Stop>
+        ensures { (at : ℕ) → Answers result self.new (step_of self.old (record { at = at; token = Close })) }
+    {
+        let Next::Have = self.next else {
+            return Err(Stop::Wrong);
+        };
+        let Some(before) = self.frames.pop() else {
+            return Err(Stop::Wrong);
+        };
+        self.left += 1;
+        let row = mem::replace(&mut self.row, unread(self.alloc));
+        let at = row.at;
+        let tree = tree_of(self.alloc, row)?;
+        self.row = placed(self.alloc, before, at, tree)?;
+        Ok(())
+    }
+
+    /// A `+`.
+    fn plus(&mut self, at: u64) -> Result<(), Stop>
+        ensures { Answers result self.new (step_of self.old (record { at = at; token = Plus })) }
+    {
+        if let Next::Begin = self.next {
+            self.next = Next::Plus(at);
+            return Ok(());
+        }
+        self.join(Join::And)
+    }
+
+    /// A `-`.
+    fn minus(&mut self, at: u64) -> Result<(), Stop>
+        ensures { Answers result self.new (step_of self.old (record { at = at; token = Minus })) }
+    {
+        if let Next::Begin = self.next {
+            self.row = alone(self.alloc, at, Ast::All { at });
+            self.next = Next::Joins(Join::Without);
+            return Ok(());
+        }
+        self.join(Join::Without)
+    }
+
+    /// What joins the next unit to those of the row.
+    fn join(&mut self, join: Join) -> Result<(), Stop>
+        ensures { Answers result self.new (joined self.old join) }
+    {
+        match self.next {
+            Next::Have => {
+                self.next = Next::Joins(join);
+                Ok(())
+            }
+            _ => Err(Stop::Wrong),
+        }
     }
 }
 
-/// A query begins.
-fn first(alloc: Global, at: u64, token: Token, stack: &mut Stack) -> Result<Phase, Stop>
-    ensures { Answers result (reverse stack.new.frames.items) stack.new.left (first_on (reverse stack.old.frames.items) stack.old.left at token) }
-{
-    match token {
-        Token::Plus => Ok(Phase::Want(Before::Plus(at))),
-        Token::Minus => {
-            let every = alone(alloc, at, Ast::All { at });
-            Ok(Phase::Want(Before::Joins(every, Join::Without)))
-        }
-        token => unit(alloc, Before::Nothing, at, token, stack),
-    }
-}
+impl Reader for QueryReader {
+    type Token = Token;
 
-/// A unit begins.
-fn unit(
-    alloc: Global,
-    before: Before,
-    at: u64,
-    token: Token,
-    stack: &mut Stack,
-) -> Result<Phase, Stop>
-    ensures { Answers result (reverse stack.new.frames.items) stack.new.left (unit_on before (reverse stack.old.frames.items) stack.old.left at token) }
-{
-    match token {
-        Token::Open => {
-            stack.open(before)?;
-            Ok(Phase::Begin)
-        }
-        Token::Word(seek, text) => have(alloc, before, at, Ast::Word { at, seek, text }),
-        Token::Field(path, test, text) => {
-            let tree = Ast::FieldTest {
+    type Tree = Ast;
+
+    ghost steps = { step_of };
+
+    ghost ends = { finish_of };
+
+    ghost has_no_value = { has_no_value };
+
+    fn step(&mut self, lexeme: Lexeme<Token>) -> Result<(), Stop>
+        ensures { Answers result self.new (step_of self.old (placed lexeme)) }
+    {
+        let Lexeme { at, token } = lexeme;
+        match token {
+            Token::Word(seek, text) => self.unit(at, Ast::Word { at, seek, text }),
+            Token::Field(path, test, text) => self.unit(
                 at,
-                path,
-                test,
-                text,
-            };
-            have(alloc, before, at, tree)
+                Ast::FieldTest {
+                    at,
+                    path,
+                    test,
+                    text,
+                },
+            ),
+            Token::Or => self.join(Join::Or),
+            Token::Plus => self.plus(at),
+            Token::Minus => self.minus(at),
+            Token::Open => self.open(),
+            Token::Close => self.close(),
         }
-        _ => Err(Stop::Wrong),
     }
-}
 
-/// A unit is read.
-fn have(alloc: Global, before: Before, at: u64, tree: Ast) -> Result<Phase, Stop>
-    ensures { Has result (placed before at tree) }
-{
-    Ok(Phase::Have(placed(alloc, before, at, tree)?))
-}
-
-/// A token behind a row.
-fn follow(alloc: Global, row: Row, at: u64, token: Token, stack: &mut Stack) -> Result<Phase, Stop>
-    ensures { Answers result (reverse stack.new.frames.items) stack.new.left (follow_on row (reverse stack.old.frames.items) stack.old.left at token) }
-{
-    match token {
-        Token::Plus => Ok(Phase::Want(Before::Joins(row, Join::And))),
-        Token::Minus => Ok(Phase::Want(Before::Joins(row, Join::Without))),
-        Token::Or => Ok(Phase::Want(Before::Joins(row, Join::Or))),
-        Token::Close => close(alloc, row, stack),
-        token => unit(alloc, Before::Joins(row, Join::And), at, token, stack),
-    }
-}
-
-/// A closing bracket behind a row.
-fn close(alloc: Global, row: Row, stack: &mut Stack) -> Result<Phase, Stop>
-    ensures { Answers result (reverse stack.new.frames.items) stack.new.left (close_on row (reverse stack.old.frames.items) stack.old.left) }
-{
-    match stack.close() {
-        Some(before) => {
-            let at = row.at;
-            let tree = tree_of(alloc, row)?;
-            have(alloc, before, at, tree)
+    fn finish(self) -> Result<Ast, Stop> {
+        let QueryReader {
+            alloc,
+            next,
+            row,
+            frames,
+            ..
+        } = self;
+        match next {
+            Next::Have if frames.is_empty() => Ok(tree_of(alloc, row)?),
+            _ => Err(Stop::Wrong),
         }
-        None => Err(Stop::Wrong),
     }
-}
 
-/// The tree of a query that ends here; it is wrong where a bracket is open still.
-pub(crate) fn finish(alloc: Global, phase: Phase, stack: &Stack) -> Result<Ast, Stop>
-    ensures { Finishes result (finished phase (reverse stack.now.frames.items)) }
-{
-    match phase {
-        Phase::Have(row) => whole(alloc, row, stack),
-        _ => Err(Stop::Wrong),
-    }
-}
-
-/// The tree, where no bracket is open.
-fn whole(alloc: Global, row: Row, stack: &Stack) -> Result<Ast, Stop>
-    ensures { Finishes result (finished (Phase.Have row) (reverse stack.now.frames.items)) }
-{
-    if stack.frames.is_empty() {
-        Ok(tree_of(alloc, row)?)
-    } else {
-        Err(Stop::Wrong)
+    fn lacks_value(_token: &Token) -> bool {
+        false
     }
 }

@@ -1,5 +1,5 @@
 // Units in a row, and the trees that they make.
-ghost use Rattle.std.specs.Prelude.{◌≡◌, ◌∷◌, [], IfOk};
+ghost use Rattle.std.specs.Prelude.{◌≡◌, ◌∷◌, [], IfOk, OnOk};
 ghost use Rattle.gr_query.specs.Machine.{placed};
 ghost use Rattle.gr_query.specs.Rows.{alone, link, tree_of, with_links};
 
@@ -20,6 +20,11 @@ pub(crate) fn alone(alloc: Global, at: u64, first: Ast) -> Row
     }
 }
 
+/// A row of which nothing is read yet.
+pub(crate) fn unread(alloc: Global) -> Row {
+    alone(alloc, 0, Ast::All { at: 0 })
+}
+
 /// A unit behind what stands before it.
 pub(crate) fn placed(alloc: Global, before: Before, at: u64, tree: Ast) -> Result<Row, NoMemory>
     ensures { IfOk result (λ row. row ≡ placed before at tree) }
@@ -27,21 +32,19 @@ pub(crate) fn placed(alloc: Global, before: Before, at: u64, tree: Ast) -> Resul
     match before {
         Before::Nothing => Ok(alone(alloc, at, tree)),
         Before::Plus(sign) => Ok(alone(alloc, sign, tree)),
-        Before::Joins(row, join) => joined(row, join, tree),
+        Before::Joins(mut row, join) => {
+            push(&mut row, join, tree)?;
+            Ok(row)
+        }
     }
 }
 
-/// A row with one more unit.
-fn joined(row: Row, join: Join, tree: Ast) -> Result<Row, NoMemory>
-    ensures { IfOk result (λ made. made ≡ with_links row (link join tree ∷ [])) }
+/// One more unit at the end of a row.
+pub(crate) fn push(row: &mut Row, join: Join, of: Ast) -> Result<(), NoMemory>
+    ensures { OnOk result (row.new ≡ with_links row.old (link join of ∷ [])) }
 {
-    let Row {
-        at,
-        first,
-        mut links,
-    } = row;
-    links.push(Joined { join, of: tree })?;
-    Ok(Row { at, first, links })
+    row.links.push(Joined { join, of })?;
+    Ok(())
 }
 
 /// The tree of a row.

@@ -1,9 +1,10 @@
 // Runs: characters in a row, with escapes among them.
-ghost use Rattle.std.specs.Prelude.{◌≡◌, ◌++◌, ◌∷◌, ◌<◌, ◌≤◌, List, ℕ, IfNone, IfOk, IfSome, IsUtf8, drop, length};
+ghost use Rattle.std.specs.Prelude.{◌≡◌, ◌++◌, ◌∷◌, ◌<◌, ◌≤◌, List, ℕ, IfNone, IfOk, IfSome, IsUtf8, drop, length, take};
+ghost use Rattle.std.specs.List.{prefix_len};
 ghost use Rattle.std.specs.Str.{IsCharBoundary};
 ghost use Rattle.std.specs.Bool.{OnTrue};
-ghost use Rattle.gr_query.specs.Reading.{EndsInStar, shown_run};
-ghost use Rattle.gr_query.specs.Runs.{is_run, no_run, run_from, with_byte};
+ghost use Rattle.gr_query.specs.Reading.{EndsInStar, HasEscape, shown_run, unescaped};
+ghost use Rattle.gr_query.specs.Runs.{begins_escape, is_run, no_run, run_from, with_byte};
 
 use gr_base::NoMemory;
 use gr_text::is_blank;
@@ -26,6 +27,38 @@ struct Character {
     byte: u8,
     len: usize,
     is_star: bool,
+}
+
+/// The run that the bytes begin with, if no escape stands in it.
+pub(crate) fn stretch(bytes: &[u8]) -> Option<&[u8]>
+    ensures exact { IfSome result (λ run. run_from bytes.now ≡ unescaped run.now) }
+    ensures front { IfSome result (λ run. run.now ≡ take (length run.now) bytes.now) }
+    ensures within { IfSome result (λ run. length run.now ≤ length bytes.now) }
+    ensures text { IsUtf8 bytes.now → IfSome result (λ run. IsUtf8 run.now) }
+    ensures rest { IsUtf8 bytes.now → IfSome result (λ run. IsUtf8 (drop (length run.now) bytes.now)) }
+    ensures none { IfNone result (HasEscape bytes.now) }
+{
+    let (run, behind) = bytes.split_at(stretch_len(bytes));
+    if begins_escape(behind) {
+        None
+    } else {
+        Some(run)
+    }
+}
+
+/// A backslash stands first, and a character behind it.
+fn begins_escape(bytes: &[u8]) -> bool
+    ensures { result ≡ begins_escape bytes.now }
+{
+    bytes.len() > 1 && bytes[0] == b'\\'
+}
+
+/// How many characters that stand for themselves the bytes begin with.
+fn stretch_len(bytes: &[u8]) -> usize
+    ensures exact { result ≡ prefix_len is_run bytes.now }
+    ensures within { result ≤ length bytes.now }
+{
+    bytes.iter().take_while(|byte| is_run(**byte)).count()
 }
 
 /// The run that the bytes begin with, as long as it goes.

@@ -21,21 +21,3 @@ pub(crate) enum Token {
     /// A path, a test, and the text that it is tested by.
     Field(Bytes, FieldOp, Bytes),
 }
-
-/// A token at its byte place.
-#[derive(Drop)]
-pub(crate) struct Lexeme {
-    pub(crate) at: u64,
-    pub(crate) token: Token,
-}
-
-/// What stands next in a query.
-#[derive(Drop)]
-pub(crate) enum Found {
-    /// A token.
-    Lexeme(Lexeme),
-    /// The place of a character that is no blank and begins no token.
-    Stranger(u64),
-    /// The end of the query.
-    End,
-}
