@@ -8,8 +8,6 @@ use Rattle.gr_expr.specs.declared.ast.FieldOp.{FieldOp}
 use Rattle.gr_expr.specs.declared.ast.Join.{Join}
 use Rattle.gr_script.specs.declared.frame.Frame.{Frame}
 use Rattle.gr_script.specs.declared.frame.Frame.TheVariants.{Joining, Testing, Combining, Signing, Grouping, Calling}
-use Rattle.gr_script.specs.declared.frame.Phase.{Phase}
-use Rattle.gr_script.specs.declared.frame.Phase.TheVariants.{Want, Opening, Have}
 use Rattle.gr_script.specs.declared.grammar.After.{After}
 use Rattle.gr_script.specs.declared.grammar.After.TheVariants as after
 use Rattle.gr_script.specs.declared.grammar.Call.{Call}
@@ -22,8 +20,9 @@ use Rattle.gr_script.specs.declared.grammar.Start.{Start}
 use Rattle.gr_script.specs.declared.grammar.Start.TheVariants as start
 use Rattle.gr_script.specs.declared.token.Symbol.TheVariants as s
 use Rattle.gr_script.specs.Grammar.{Part, conditions, comparison, numbers, operand, script, of_conditions, of_numbers, a_leaf, Arguments, no_argument, an_argument, no_link, no_term}
-use Rattle.gr_script.specs.Machine.{tightness, number_tightness, pull, Held, reduced, Outcome, goes, deep, wrong, join_on, test_on, combine_on, close_on, takes_more, separate_on, placed, begun, step, run}
-use Rattle.gr_script.specs.Token.{Lexeme, symbol, path}
+use Rattle.gr_script.specs.Machine.{tightness, number_tightness, pull, Held, reduced, join_on, test_on, combine_on, close_on, takes_more, separate_on, follows, begun, step, Phase, Want, Opening, Have, State, state, step_of}
+use Rattle.gr_script.specs.Token.{Lexeme}
+use Rattle.gr_script.specs.declared.token.Token.TheVariants.{Symbol as symbol, Path as path}
 use Rattle.gr_script.specs.Trees.{chain, calculation, tested, signed, called, takes, link, term}
 use Rattle.gr_script.specs.Words.{start_of, after_of, opens}
 use Rattle.gr_script.proofs.Climb.{rank, merge}
@@ -31,6 +30,7 @@ use Rattle.gr_script.proofs.Taken.{free}
 use Rattle.gr_script.proofs.Begun.{hole, Completes, at_bottom, in_chain, in_test, in_calculation, in_sign, in_group, in_call}
 use Rattle.gr_script.proofs.Closing.{HasRoom, IsStack, Rests, reducing, reduces_stack}
 use Rattle.gr_script.proofs.Steps.{Goes, loose_hole, loose_test_hole, loose_number_hole, rank_pos}
+use Rattle.gr_text.specs.Reading.{Outcome, goes, deep, wrong, run}
 
 closing : Lexeme
 closing = record { at = 0; token = symbol s.Close }
@@ -150,8 +150,8 @@ ending (Have x) frames levels s =
     record { whole = f.whole; ts = f.ts; goes_on = f.completes }
 
 -- a state's begun parts stand in each other as the grammar has them
-abbrev pub Stacked : Outcome → Type 0
-Stacked (goes phase frames levels) = IsStack operand frames
+abbrev pub Stacked : Outcome State → Type 0
+Stacked (goes (state phase frames levels)) = IsStack operand frames
 Stacked deep = Unit {0}
 Stacked wrong = Unit {0}
 
@@ -182,7 +182,7 @@ module _ (levels : ℕ) (x : Ast) (p : Part) where
   close_stacked (Grouping ∷ frames) s = s.2
   close_stacked (Calling call at args ∷ frames) s = pick (takes call (suc (length args)))
     where
-      pick : (b : Bool) → Stacked (cond b (goes (Have (called call at (args ++ (x ∷ [])))) frames (suc levels)) wrong)
+      pick : (b : Bool) → Stacked (cond b (goes (state (Have (called call at (args ++ (x ∷ [])))) frames (suc levels))) wrong)
       pick true = s.2
       pick false = tt
   close_stacked frames s = tt
@@ -194,12 +194,12 @@ module _ (levels : ℕ) (x : Ast) (p : Part) where
       room Between e = omega (arith, length-append args (x ∷ []), ltb-true (suc (length args)) 5 e)
       room InValues e = tt
 
-      pick : (b : Bool) → takes_more call (suc (length args)) ≡ b → Stacked (cond b (goes Want (Calling call at (args ++ (x ∷ [])) ∷ frames) levels) wrong)
+      pick : (b : Bool) → takes_more call (suc (length args)) ≡ b → Stacked (cond b (goes (state Want (Calling call at (args ++ (x ∷ [])) ∷ frames) levels)) wrong)
       pick true e = (omega arith, room call e, s.2)
       pick false e = tt
   separate_stacked frames s = tt
 
-placed_stacked : (p : Part) (held : Held) (a : After) → IsStack p held.frames → Rests (pull a) held.frames → Stacked (placed a held)
+placed_stacked : (p : Part) (held : Held) (a : After) → IsStack p held.frames → Rests (pull a) held.frames → Stacked (follows a held)
 placed_stacked p held after.Closes s r = close_stacked held.left held.tree p held.frames s
 placed_stacked p held after.Separates s r = separate_stacked held.left held.tree p held.frames s
 placed_stacked p held (after.Joins line join) s r = join_stacked held.left held.tree p line join held.frames s r
@@ -221,15 +221,15 @@ pub step_stacked : (phase : Phase) (frames : List Frame) (levels : ℕ) (t : Lex
 step_stacked Want frames levels t s = begun_stacked (start_of t) t.at frames levels s
 step_stacked Opening frames levels t s = pick (opens t.token)
   where
-    pick : (b : Bool) → Stacked (cond b (goes Want frames levels) wrong)
+    pick : (b : Bool) → Stacked (cond b (goes (state Want frames levels)) wrong)
     pick true = s
     pick false = tt
 step_stacked (Have x) frames levels t s =
     let r = reducing (pull (after_of t)) operand x frames levels in
     placed_stacked r.part (reduced (pull (after_of t)) x frames levels) (after_of t) (reduces_stack r.steps s) r.rests
 
-pub run_stacked : (ts : List Lexeme) (o : Outcome) → Stacked o → Stacked (run o ts)
+pub run_stacked : (ts : List Lexeme) (o : Outcome State) → Stacked o → Stacked (run step_of o ts)
 run_stacked [] o s = s
-run_stacked (t ∷ ts) (goes phase frames levels) s = run_stacked ts (step phase frames levels t) (step_stacked phase frames levels t s)
+run_stacked (t ∷ ts) (goes (state phase frames levels)) s = run_stacked ts (step phase frames levels t) (step_stacked phase frames levels t s)
 run_stacked (t ∷ ts) deep s = tt
 run_stacked (t ∷ ts) wrong s = tt

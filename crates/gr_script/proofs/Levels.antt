@@ -1,13 +1,11 @@
 -- One more level lets each step go as before.
-use Rattle.std.proofs.Common.{◌≡◌, ℕ, zero, suc, ◌+◌, Bool, true, false, cond, nat_lt, List, [], ◌∷◌, ◌++◌, length, refl, sym, ◌∙◌, ap, subst, zero-add, suc-add}
+use Rattle.std.proofs.Common.{◌≡◌, ℕ, zero, suc, Bool, true, false, cond, nat_lt, List, [], ◌∷◌, ◌++◌, length, refl, sym, ◌∙◌, ap, subst}
 use Rattle.gr_expr.specs.declared.ast.Arith.{Arith}
 use Rattle.gr_expr.specs.declared.ast.Ast.{Ast}
 use Rattle.gr_expr.specs.declared.ast.FieldOp.{FieldOp}
 use Rattle.gr_expr.specs.declared.ast.Join.{Join}
 use Rattle.gr_script.specs.declared.frame.Frame.{Frame}
 use Rattle.gr_script.specs.declared.frame.Frame.TheVariants.{Joining, Testing, Combining, Signing, Grouping, Calling}
-use Rattle.gr_script.specs.declared.frame.Phase.{Phase}
-use Rattle.gr_script.specs.declared.frame.Phase.TheVariants.{Want, Opening, Have}
 use Rattle.gr_script.specs.declared.grammar.After.{After}
 use Rattle.gr_script.specs.declared.grammar.After.TheVariants as after
 use Rattle.gr_script.specs.declared.grammar.ConditionLine.{ConditionLine}
@@ -16,17 +14,16 @@ use Rattle.gr_script.specs.declared.grammar.NumberLine.{NumberLine}
 use Rattle.gr_script.specs.declared.grammar.NumberLine.TheVariants.{Sum, Product}
 use Rattle.gr_script.specs.declared.grammar.Start.{Start}
 use Rattle.gr_script.specs.declared.grammar.Start.TheVariants as start
-use Rattle.gr_script.specs.Machine.{begin, hold, closed, released, Held, reduced, Outcome, goes, deep, wrong, join_on, test_on, combine_on, close_on, takes_more, separate_on, placed, begun, step, run, pull}
+use Rattle.gr_script.specs.Machine.{hold, closed, released, Held, reduced, join_on, test_on, combine_on, close_on, takes_more, separate_on, follows, begun, step, pull, Phase, Want, Opening, Have, State, state, step_of}
 use Rattle.gr_script.specs.Token.{Lexeme}
 use Rattle.gr_script.specs.Words.{start_of, after_of, opens}
 use Rattle.gr_script.specs.Trees.{takes, called}
-use Rattle.gr_script.proofs.Scripts.{IsGoing}
+use Rattle.gr_text.proofs.Grammar.{Raises}
+use Rattle.gr_text.specs.Reading.{goes, wrong}
 
--- the outcome where one level more may be opened
-abbrev pub Raises : Outcome → Outcome → Type 0
-Raises (goes phase frames levels) o = o ≡ goes phase frames (suc levels)
-Raises deep o = Unit {0}
-Raises wrong o = o ≡ wrong
+-- a state with one level more to open
+abbrev pub raised_state : State → State
+raised_state (state phase frames left) = state phase frames (suc left)
 
 abbrev raised : Held → Held
 raised held = record { tree = held.tree; frames = held.frames; left = suc held.left }
@@ -48,34 +45,34 @@ reduced_raised pulled x (frame ∷ frames) levels =
     pick true deeper = deeper
     pick false deeper = refl
 
-either_raised : (b : Bool) (phase : Phase) (frames : List Frame) (levels : ℕ) → Raises (cond b (goes phase frames levels) wrong) (cond b (goes phase frames (suc levels)) wrong)
+either_raised : (b : Bool) (phase : Phase) (frames : List Frame) (levels : ℕ) → Raises raised_state (cond b (goes (state phase frames levels)) wrong) (cond b (goes (state phase frames (suc levels))) wrong)
 either_raised true phase frames levels = refl
 either_raised false phase frames levels = refl
 
-close_raised : (x : Ast) (frames : List Frame) (levels : ℕ) → Raises (close_on x frames levels) (close_on x frames (suc levels))
+close_raised : (x : Ast) (frames : List Frame) (levels : ℕ) → Raises raised_state (close_on x frames levels) (close_on x frames (suc levels))
 close_raised x (Grouping ∷ frames) levels = refl
 close_raised x (Calling call at args ∷ frames) levels = either_raised (takes call (suc (length args))) (Have (called call at (args ++ (x ∷ [])))) frames (suc levels)
 close_raised x frames levels = refl
 
-separate_raised : (x : Ast) (frames : List Frame) (levels : ℕ) → Raises (separate_on x frames levels) (separate_on x frames (suc levels))
+separate_raised : (x : Ast) (frames : List Frame) (levels : ℕ) → Raises raised_state (separate_on x frames levels) (separate_on x frames (suc levels))
 separate_raised x (Calling call at args ∷ frames) levels = either_raised (takes_more call (suc (length args))) Want (Calling call at (args ++ (x ∷ [])) ∷ frames) levels
 separate_raised x frames levels = refl
 
-join_raised : (line : ConditionLine) (join : Join) (x : Ast) (frames : List Frame) (levels : ℕ) → Raises (join_on line join x frames levels) (join_on line join x frames (suc levels))
+join_raised : (line : ConditionLine) (join : Join) (x : Ast) (frames : List Frame) (levels : ℕ) → Raises raised_state (join_on line join x frames levels) (join_on line join x frames (suc levels))
 join_raised Any join x (Joining Any first links before ∷ frames) levels = refl
 join_raised All join x (Joining All first links before ∷ frames) levels = refl
 join_raised line join x frames levels = refl
 
-test_raised : (test : FieldOp) (x : Ast) (frames : List Frame) (levels : ℕ) → Raises (test_on test x frames levels) (test_on test x frames (suc levels))
+test_raised : (test : FieldOp) (x : Ast) (frames : List Frame) (levels : ℕ) → Raises raised_state (test_on test x frames levels) (test_on test x frames (suc levels))
 test_raised test x (Testing before left ∷ frames) levels = refl
 test_raised test x frames levels = refl
 
-number_raised : (line : NumberLine) (sign : Arith) (x : Ast) (frames : List Frame) (levels : ℕ) → Raises (combine_on line sign x frames levels) (combine_on line sign x frames (suc levels))
+number_raised : (line : NumberLine) (sign : Arith) (x : Ast) (frames : List Frame) (levels : ℕ) → Raises raised_state (combine_on line sign x frames levels) (combine_on line sign x frames (suc levels))
 number_raised Sum sign x (Combining Sum first terms before ∷ frames) levels = refl
 number_raised Product sign x (Combining Product first terms before ∷ frames) levels = refl
 number_raised line sign x frames levels = refl
 
-placed_raised : (a : After) (held : Held) → Raises (placed a held) (placed a (raised held))
+placed_raised : (a : After) (held : Held) → Raises raised_state (follows a held) (follows a (raised held))
 placed_raised after.Closes held = close_raised held.tree held.frames held.left
 placed_raised after.Separates held = separate_raised held.tree held.frames held.left
 placed_raised (after.Joins line join) held = join_raised line join held.tree held.frames held.left
@@ -83,7 +80,7 @@ placed_raised (after.Tests test) held = test_raised test held.tree held.frames h
 placed_raised (after.Combines line sign) held = number_raised line sign held.tree held.frames held.left
 placed_raised after.Nothing held = refl
 
-begun_raised : (s : Start) (at : ℕ) (frames : List Frame) (levels : ℕ) → Raises (begun s at frames levels) (begun s at frames (suc levels))
+begun_raised : (s : Start) (at : ℕ) (frames : List Frame) (levels : ℕ) → Raises raised_state (begun s at frames levels) (begun s at frames (suc levels))
 begun_raised (start.Leaf tree) at frames levels = refl
 begun_raised (start.Signed sign) at frames zero = tt
 begun_raised (start.Signed sign) at frames (suc levels) = refl
@@ -93,47 +90,13 @@ begun_raised (start.Called call) at frames zero = tt
 begun_raised (start.Called call) at frames (suc levels) = refl
 begun_raised start.Nothing at frames levels = refl
 
-pub step_raised : (phase : Phase) (frames : List Frame) (levels : ℕ) (t : Lexeme) → Raises (step phase frames levels t) (step phase frames (suc levels) t)
+step_raised : (phase : Phase) (frames : List Frame) (levels : ℕ) (t : Lexeme) → Raises raised_state (step phase frames levels t) (step phase frames (suc levels) t)
 step_raised Want frames levels t = begun_raised (start_of t) t.at frames levels
 step_raised Opening frames levels t = either_raised (opens t.token) Want frames levels
 step_raised (Have x) frames levels t =
     let pulled = pull (after_of t) in
-    subst (λ held. Raises (placed (after_of t) (reduced pulled x frames levels)) (placed (after_of t) held)) (sym (reduced_raised pulled x frames levels)) (placed_raised (after_of t) (reduced pulled x frames levels))
+    subst (λ held. Raises raised_state (follows (after_of t) (reduced pulled x frames levels)) (follows (after_of t) held)) (sym (reduced_raised pulled x frames levels)) (placed_raised (after_of t) (reduced pulled x frames levels))
 
-pub run_deep : (ts : List Lexeme) → run deep ts ≡ deep
-run_deep [] = refl
-run_deep (t ∷ ts) = refl
-
-pub run_wrong : (ts : List Lexeme) → run wrong ts ≡ wrong
-run_wrong [] = refl
-run_wrong (t ∷ ts) = refl
-
-pub run_raised : (ts : List Lexeme) (o up : Outcome) → Raises o up → Raises (run o ts) (run up ts)
-run_raised [] o up r = r
-run_raised (t ∷ ts) (goes phase frames levels) up r =
-    subst (λ other. Raises (run (step phase frames levels t) ts) (run other (t ∷ ts))) (sym r)
-    (run_raised ts (step phase frames levels t) (step phase frames (suc levels) t) (step_raised phase frames levels t))
-run_raised (t ∷ ts) deep up r = tt
-run_raised (t ∷ ts) wrong up r = ap (λ other. run other (t ∷ ts)) r
-
-raised_going : (o up : Outcome) → Raises o up → IsGoing o → IsGoing up
-raised_going (goes phase frames levels) up r g = subst IsGoing (sym r) tt
-raised_going deep up r g = absurd g
-raised_going wrong up r g = absurd g
-
-raised_wrong : (o up : Outcome) → Raises o up → o ≡ wrong → up ≡ wrong
-raised_wrong o up r e = subst (λ x. Raises x up) e r
-
--- what begins a script begins one with more levels
-pub begins_more : (more levels : ℕ) (ts : List Lexeme) → IsGoing (run (begin levels) ts) → IsGoing (run (begin (more + levels)) ts)
-begins_more zero levels ts g = subst (λ n. IsGoing (run (begin n) ts)) (sym (zero-add levels)) g
-begins_more (suc more) levels ts g =
-    subst (λ n. IsGoing (run (begin n) ts)) (sym (suc-add more levels))
-    (raised_going (run (begin (more + levels)) ts) (run (begin (suc (more + levels))) ts) (run_raised ts (begin (more + levels)) (begin (suc (more + levels))) refl) (begins_more more levels ts g))
-
--- what is wrong is so with more levels
-pub wrong_more : (more levels : ℕ) (ts : List Lexeme) → run (begin levels) ts ≡ wrong → run (begin (more + levels)) ts ≡ wrong
-wrong_more zero levels ts e = ap (λ n. run (begin n) ts) (zero-add levels) ∙ e
-wrong_more (suc more) levels ts e =
-    ap (λ n. run (begin n) ts) (suc-add more levels)
-    ∙ raised_wrong (run (begin (more + levels)) ts) (run (begin (suc (more + levels))) ts) (run_raised ts (begin (more + levels)) (begin (suc (more + levels))) refl) (wrong_more more levels ts e)
+-- the same of a state
+pub state_raised : (s : State) (t : Lexeme) → Raises raised_state (step_of s t) (step_of (raised_state s) t)
+state_raised (state phase frames left) t = step_raised phase frames left t

@@ -8,12 +8,10 @@ pub mod Steps
 pub mod Going
 pub mod Scripts
 pub mod Levels
-pub mod Faults
-pub mod Answer
 pub mod Listing
-pub mod ListAnswer
+pub mod Fitting
 pub mod Making
-pub mod Turning
+pub mod ColumnsMade
+pub mod Told
+pub mod Tops
 pub mod Ends
-pub mod Next
-pub mod ColumnTurning

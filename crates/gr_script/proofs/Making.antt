@@ -1,7 +1,7 @@
 -- The trees that the grammar makes of texts are well made.
 use Rattle.std.proofs.Common.{◌≡◌, ℕ, Bool, true, false, cond, List, [], ◌∷◌, length, map, codes, IsUtf8, refl, ap, subst}
 use Rattle.std.proofs.lemmas.Bool.{eqb-true, leb-true}
-use Rattle.std.specs.Prelude.{min}
+use Rattle.std.specs.Prelude.{unwrap_or}
 use Rattle.std.specs.Str.{bytes_eq}
 use Rattle.gr_expr.specs.declared.ast.Arith.{Arith}
 use Rattle.gr_expr.specs.declared.ast.Ast.{Ast, every_made-Ast}
@@ -23,11 +23,12 @@ use Rattle.gr_script.specs.declared.grammar.Start.TheVariants as start
 use Rattle.gr_script.specs.declared.token.Symbol.{Symbol}
 use Rattle.gr_script.specs.declared.token.Symbol.TheVariants as s
 use Rattle.gr_script.specs.Grammar.{Part, Reads, a_chain, a_number, a_test, a_calculation, a_leaf, a_sign, a_group, a_call, Links, no_link, a_link, Terms, no_term, a_term, Arguments, no_argument, an_argument}
-use Rattle.gr_script.specs.Token.{Token, symbol, digits, text, path, Lexeme}
+use Rattle.gr_script.specs.declared.token.Token.{Token}
+use Rattle.gr_script.specs.declared.token.Token.TheVariants.{Symbol as symbol, Digits as digits, Text as text, Path as path}
+use Rattle.gr_script.specs.Token.{IsText, Lexeme}
 use Rattle.gr_script.specs.Words.{greatest, word_at, start_with, start_at}
 use Rattle.gr_script.specs.Made.{IsMadeLayer, AnyLink, AnyTerm, IsMade}
-use Rattle.gr_script.specs.Turns.{AreText}
-use Rattle.gr_script.specs.Lexing.{held, IsText}
+use Rattle.gr_text.specs.Reading.{AreText}
 use Rattle.gr_script.specs.Trees.{place_of, link, term, chain, calculation, tested, signed, called, takes}
 
 -- a list of trees, each well made
@@ -110,15 +111,15 @@ made_mark s.Not = tt
 made_mark s.Minus = tt
 made_mark _ = tt
 
-made_start : (at : ℕ) (token : Token) → IsText (held token) → MadeStart (start_at at token)
+made_start : (at : ℕ) (token : Token) → IsText token → MadeStart (start_at at token)
 made_start at (symbol mark) h = made_mark mark
-made_start at (digits n) h = made_number at (min n greatest)
+made_start at (digits value) h = made_number at (unwrap_or value greatest)
 made_start at (text bytes) h = made_text at bytes h
 made_start at (path word) h = made_word at word h
 
 mutual
   -- what is read of texts is well made, and what is left is texts
-  pub made_part : {p : Part} {levels : ℕ} {ts rest : List Lexeme} {tree : Ast} → Reads p levels ts tree rest → AreText ts → IsMade tree × AreText rest
+  pub made_part : {p : Part} {levels : ℕ} {ts rest : List Lexeme} {tree : Ast} → Reads p levels ts tree rest → AreText IsText ts → IsMade tree × AreText IsText rest
   made_part (a_chain {first = first} {links = links} r l) h =
       let m = made_part r h in
       let n = made_links l m.1 in
@@ -144,21 +145,21 @@ mutual
       let n = made_arguments a m.1 in
       (made_called call t.at (first ∷ more) ((first, m.0) ∷ (n.0).0, ap (λ trees. first ∷ trees) (n.0).1) k, n.1)
 
-  made_links : {line : ConditionLine} {levels : ℕ} {ts rest : List Lexeme} {links : List Joined} → Links line levels ts links rest → AreText ts → AreMadeLinks links × AreText rest
+  made_links : {line : ConditionLine} {levels : ℕ} {ts rest : List Lexeme} {links : List Joined} → Links line levels ts links rest → AreText IsText ts → AreMadeLinks links × AreText IsText rest
   made_links no_link h = (([], refl), h)
   made_links (a_link {join = join} {of = of} e r l) h =
       let m = made_part r h.1 in
       let n = made_links l m.1 in
       (((link join of, made_link join of m.0) ∷ (n.0).0, ap (λ links. link join of ∷ links) (n.0).1), n.1)
 
-  made_terms : {line : NumberLine} {levels : ℕ} {ts rest : List Lexeme} {terms : List Combined} → Terms line levels ts terms rest → AreText ts → AreMadeTerms terms × AreText rest
+  made_terms : {line : NumberLine} {levels : ℕ} {ts rest : List Lexeme} {terms : List Combined} → Terms line levels ts terms rest → AreText IsText ts → AreMadeTerms terms × AreText IsText rest
   made_terms no_term h = (([], refl), h)
   made_terms (a_term {arith = sign} {of = of} e r l) h =
       let m = made_part r h.1 in
       let n = made_terms l m.1 in
       (((term sign of, made_term sign of m.0) ∷ (n.0).0, ap (λ terms. term sign of ∷ terms) (n.0).1), n.1)
 
-  made_arguments : {levels : ℕ} {ts rest : List Lexeme} {more : List Ast} → Arguments levels ts more rest → AreText ts → AreMade more × AreText rest
+  made_arguments : {levels : ℕ} {ts rest : List Lexeme} {more : List Ast} → Arguments levels ts more rest → AreText IsText ts → AreMade more × AreText IsText rest
   made_arguments (no_argument e) h = (([], refl), h.1)
   made_arguments (an_argument {tree = tree} e r a) h =
       let m = made_part r h.1 in

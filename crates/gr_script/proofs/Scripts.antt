@@ -1,11 +1,9 @@
 -- Scripts, and what begins one, are what the reader goes through.
-use Rattle.std.proofs.Common.{◌≡◌, ℕ, List, [], ◌∷◌, ◌++◌, append-nil, Option, Some, None, refl, sym, ◌∙◌, ap, subst, arith}
+use Rattle.std.proofs.Common.{◌≡◌, ℕ, List, [], ◌∷◌, ◌++◌, append-nil, Some, refl, sym, ap, subst, arith}
 use Rattle.gr_expr.specs.declared.ast.Ast.{Ast}
 use Rattle.gr_script.specs.declared.frame.Frame.{Frame}
-use Rattle.gr_script.specs.declared.frame.Phase.{Phase}
-use Rattle.gr_script.specs.declared.frame.Phase.TheVariants.{Want, Opening, Have}
-use Rattle.gr_script.specs.Grammar.{Part, operand, script, Reads, Arguments, no_argument, an_argument, Sentence, Begins}
-use Rattle.gr_script.specs.Machine.{begin, reduced, Outcome, goes, deep, wrong, step, run, whole, finished}
+use Rattle.gr_script.specs.Grammar.{Part, operand, script, Reads, Arguments, no_argument, an_argument, Sentence}
+use Rattle.gr_script.specs.Machine.{begin, reduced, step, whole, finished, Phase, Want, Opening, Have, State, state, step_of, finished_of}
 use Rattle.gr_script.specs.Token.{Lexeme}
 use Rattle.gr_script.proofs.Cases.{some_is, none_is, empty_is}
 use Rattle.gr_script.proofs.Climb.{tightness_above, Climbs, still, split, merge}
@@ -14,26 +12,23 @@ use Rattle.gr_script.proofs.Going.{ending, Stacked, step_stacked, run_stacked}
 use Rattle.gr_script.proofs.Begun.{Completes, at_bottom, in_chain, in_test, in_calculation, in_sign, in_group, in_call, Wants}
 use Rattle.gr_script.proofs.Steps.{Goes, GoesOn, step_to, step_from, loose_line, rank_pos}
 use Rattle.gr_script.proofs.Taken.{free}
+use Rattle.gr_text.specs.Reading.{Outcome, goes, deep, wrong, run}
+use Rattle.gr_text.specs.Sentences.{Begins}
+use Rattle.gr_text.proofs.Grammar.{IsGoing, end_of}
 
 -- what finishes the script with these tokens first finishes it behind them
-pub run_to : (w : Ast) (ts more : List Lexeme) (o : Outcome) → GoesOn w o (ts ++ more) → GoesOn w (run o ts) more
+pub run_to : (w : Ast) (ts more : List Lexeme) (o : Outcome State) → GoesOn w o (ts ++ more) → GoesOn w (run step_of o ts) more
 run_to w [] more o m = m
-run_to w (t ∷ ts) more (goes phase frames levels) m = run_to w ts more (step phase frames levels t) (step_to w phase frames levels t (ts ++ more) m)
+run_to w (t ∷ ts) more (goes (state phase frames levels)) m = run_to w ts more (step phase frames levels t) (step_to w phase frames levels t (ts ++ more) m)
 run_to w (t ∷ ts) more deep m = m
 run_to w (t ∷ ts) more wrong m = m
 
-pub run_from : (w : Ast) (ts more : List Lexeme) (o : Outcome) → Stacked o → GoesOn w (run o ts) more → GoesOn w o (ts ++ more)
+pub run_from : (w : Ast) (ts more : List Lexeme) (o : Outcome State) → Stacked o → GoesOn w (run step_of o ts) more → GoesOn w o (ts ++ more)
 run_from w [] more o s m = m
-run_from w (t ∷ ts) more (goes phase frames levels) s m =
+run_from w (t ∷ ts) more (goes (state phase frames levels)) s m =
     step_from w phase frames levels t (ts ++ more) s (run_from w ts more (step phase frames levels t) (step_stacked phase frames levels t s) m)
 run_from w (t ∷ ts) more deep s m = m
 run_from w (t ∷ ts) more wrong s m = m
-
--- the tree of a script that ends with an outcome
-abbrev pub end_of : Outcome → Option Ast
-end_of (goes phase frames levels) = finished phase frames levels
-end_of deep = None
-end_of wrong = None
 
 no_operand : {levels : ℕ} {x : Ast} {us : List Lexeme} → Reads operand levels [] x us → ⊥
 no_operand r = elim r [ ]
@@ -71,13 +66,13 @@ ended_from w (Have x) frames levels s e =
     let h = reduced 0 x frames levels in
     reduces_from r.steps refl s (bottom_from w r.part h.frames h.left h.tree e)
 
-end_to : (w : Ast) (o : Outcome) → GoesOn w o [] → end_of o ≡ Some w
-end_to w (goes phase frames levels) m = ended_to w phase frames levels m
+end_to : (w : Ast) (o : Outcome State) → GoesOn w o [] → end_of finished_of o ≡ Some w
+end_to w (goes (state phase frames levels)) m = ended_to w phase frames levels m
 end_to w deep m = absurd m
 end_to w wrong m = absurd m
 
-end_from : (w : Ast) (o : Outcome) → Stacked o → end_of o ≡ Some w → GoesOn w o []
-end_from w (goes phase frames levels) s e = ended_from w phase frames levels s e
+end_from : (w : Ast) (o : Outcome State) → Stacked o → end_of finished_of o ≡ Some w → GoesOn w o []
+end_from w (goes (state phase frames levels)) s e = ended_from w phase frames levels s e
 end_from w deep s e = none_is e
 end_from w wrong s e = none_is e
 
@@ -91,36 +86,27 @@ goes_sentence levels ts w m = go m.reads m.completes
     go r (at_bottom c) = merge r c
 
 -- the tokens are a script exactly where the reader ends with its tree
-pub sentence_to : (levels : ℕ) (ts : List Lexeme) (w : Ast) → Sentence levels ts w → end_of (run (begin levels) ts) ≡ Some w
+pub sentence_to : (levels : ℕ) (ts : List Lexeme) (w : Ast) → Sentence levels ts w → end_of finished_of (run step_of (goes (begin levels)) ts) ≡ Some w
 sentence_to levels ts w r =
-    end_to w (run (begin levels) ts) (run_to w ts [] (begin levels) (subst (λ us. Wants w [] levels us) (sym (append-nil ts)) (sentence_goes levels ts w r)))
+    end_to w (run step_of (goes (begin levels)) ts) (run_to w ts [] (goes (begin levels)) (subst (λ us. Wants w [] levels us) (sym (append-nil ts)) (sentence_goes levels ts w r)))
 
-pub sentence_from : (levels : ℕ) (ts : List Lexeme) (w : Ast) → end_of (run (begin levels) ts) ≡ Some w → Sentence levels ts w
+pub sentence_from : (levels : ℕ) (ts : List Lexeme) (w : Ast) → end_of finished_of (run step_of (goes (begin levels)) ts) ≡ Some w → Sentence levels ts w
 sentence_from levels ts w e =
-    goes_sentence levels ts w (subst (λ us. Wants w [] levels us) (append-nil ts) (run_from w ts [] (begin levels) tt (end_from w (run (begin levels) ts) (run_stacked ts (begin levels) tt) e)))
+    goes_sentence levels ts w (subst (λ us. Wants w [] levels us) (append-nil ts) (run_from w ts [] (goes (begin levels)) tt (end_from w (run step_of (goes (begin levels)) ts) (run_stacked ts (goes (begin levels)) tt) e)))
 
--- the tokens have one tree at most
-pub one_tree : (levels : ℕ) (ts : List Lexeme) (x y : Ast) → Sentence levels ts x → Sentence levels ts y → x ≡ y
-one_tree levels ts x y a b = some_is (sym (sentence_to levels ts x a) ∙ sentence_to levels ts y b)
-
-abbrev pub IsGoing : Outcome → Type 0
-IsGoing (goes phase frames levels) = Unit {0}
-IsGoing deep = ⊥
-IsGoing wrong = ⊥
-
-going : (w : Ast) (ts : List Lexeme) (o : Outcome) → GoesOn w o ts → IsGoing o
-going w ts (goes phase frames levels) m = tt
+going : (w : Ast) (ts : List Lexeme) (o : Outcome State) → GoesOn w o ts → IsGoing o
+going w ts (goes (state phase frames levels)) m = tt
 going w ts deep m = m
 going w ts wrong m = m
 
--- the tokens begin a script exactly where the reader goes on behind them
-pub begins_to : (levels : ℕ) (ts : List Lexeme) → Begins levels ts → IsGoing (run (begin levels) ts)
-begins_to levels ts b = going b.1 b.0 (run (begin levels) ts) (run_to b.1 ts b.0 (begin levels) (sentence_goes levels (ts ++ b.0) b.1 b.2))
+-- the tokens begin a script exactly where the reader goes (state on behind them)
+pub begins_to : (levels : ℕ) (ts : List Lexeme) → Begins Sentence levels ts → IsGoing (run step_of (goes (begin levels)) ts)
+begins_to levels ts b = going b.1 b.0 (run step_of (goes (begin levels)) ts) (run_to b.1 ts b.0 (goes (begin levels)) (sentence_goes levels (ts ++ b.0) b.1 b.2))
 
-pub begins_from : (levels : ℕ) (ts : List Lexeme) → IsGoing (run (begin levels) ts) → Begins levels ts
-begins_from levels ts g = go (run (begin levels) ts) (run_stacked ts (begin levels) tt) g (λ w more m. run_from w ts more (begin levels) tt m)
+pub begins_from : (levels : ℕ) (ts : List Lexeme) → IsGoing (run step_of (goes (begin levels)) ts) → Begins Sentence levels ts
+begins_from levels ts g = go (run step_of (goes (begin levels)) ts) (run_stacked ts (goes (begin levels)) tt) g (λ w more m. run_from w ts more (goes (begin levels)) tt m)
   where
-    go : (o : Outcome) → Stacked o → IsGoing o → ((w : Ast) (more : List Lexeme) → GoesOn w o more → Wants w [] levels (ts ++ more)) → Begins levels ts
-    go (goes phase frames left) s g back = let e = ending phase frames left s in (e.ts, e.whole, goes_sentence levels (ts ++ e.ts) e.whole (back e.whole e.ts e.goes_on))
+    go : (o : Outcome State) → Stacked o → IsGoing o → ((w : Ast) (more : List Lexeme) → GoesOn w o more → Wants w [] levels (ts ++ more)) → Begins Sentence levels ts
+    go (goes (state phase frames left)) s g back = let e = ending phase frames left s in (e.ts, e.whole, goes_sentence levels (ts ++ e.ts) e.whole (back e.whole e.ts e.goes_on))
     go deep s g back = absurd g
     go wrong s g back = absurd g

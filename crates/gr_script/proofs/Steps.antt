@@ -8,8 +8,6 @@ use Rattle.gr_expr.specs.declared.ast.FieldOp.{FieldOp}
 use Rattle.gr_expr.specs.declared.ast.Join.{Join}
 use Rattle.gr_script.specs.declared.frame.Frame.{Frame}
 use Rattle.gr_script.specs.declared.frame.Frame.TheVariants.{Joining, Testing, Combining, Signing, Grouping, Calling}
-use Rattle.gr_script.specs.declared.frame.Phase.{Phase}
-use Rattle.gr_script.specs.declared.frame.Phase.TheVariants.{Want, Opening, Have}
 use Rattle.gr_script.specs.declared.grammar.After.{After}
 use Rattle.gr_script.specs.declared.grammar.After.TheVariants as after
 use Rattle.gr_script.specs.declared.grammar.Call.{Call}
@@ -22,7 +20,7 @@ use Rattle.gr_script.specs.declared.grammar.Sign.{Sign}
 use Rattle.gr_script.specs.declared.grammar.Start.{Start}
 use Rattle.gr_script.specs.declared.grammar.Start.TheVariants as start
 use Rattle.gr_script.specs.Grammar.{Part, conditions, comparison, numbers, operand, script, Reads, a_leaf, a_sign, a_group, a_call, Arguments, no_argument, an_argument, of_numbers}
-use Rattle.gr_script.specs.Machine.{tightness, number_tightness, pull, Held, reduced, Outcome, goes, deep, wrong, join_on, test_on, combine_on, close_on, takes_more, separate_on, placed, begun, step}
+use Rattle.gr_script.specs.Machine.{tightness, number_tightness, pull, Held, reduced, join_on, test_on, combine_on, close_on, takes_more, separate_on, follows, begun, step, Phase, Want, Opening, Have, State, state}
 use Rattle.gr_script.specs.Token.{Lexeme}
 use Rattle.gr_script.specs.Trees.{called, takes}
 use Rattle.gr_script.specs.Words.{start_of, after_of, opens}
@@ -32,6 +30,7 @@ use Rattle.gr_script.proofs.Taken.{free}
 use Rattle.gr_script.proofs.Begun.{hole, Completes, at_bottom, in_chain, in_test, in_calculation, in_sign, in_group, in_call, Wants}
 use Rattle.gr_script.proofs.Rows.{link_begins, link_begun, link_extends, link_extended, test_begins, test_begun, test_ends, term_begins, term_begun, term_extends, term_extended}
 use Rattle.gr_script.proofs.Closing.{IsStack, Rests, reducing, reduces_to, reduces_from, reduces_rank}
+use Rattle.gr_text.specs.Reading.{Outcome, goes, deep, wrong}
 
 -- the bracket that opens a call's arguments comes next
 abbrev pub Opens : Ast → List Frame → ℕ → List Lexeme → Type 0
@@ -44,8 +43,8 @@ Goes w Want frames levels ts = Wants w frames levels ts
 Goes w Opening frames levels ts = Opens w frames levels ts
 Goes w (Have x) frames levels ts = Completes w operand frames levels x ts
 
-abbrev pub GoesOn : Ast → Outcome → List Lexeme → Type 0
-GoesOn w (goes phase frames levels) ts = Goes w phase frames levels ts
+abbrev pub GoesOn : Ast → Outcome State → List Lexeme → Type 0
+GoesOn w (goes (state phase frames levels)) ts = Goes w phase frames levels ts
 GoesOn w deep ts = ⊥
 GoesOn w wrong ts = ⊥
 
@@ -149,11 +148,11 @@ module _ {w : Ast} {levels : ℕ} {x : Ast} {t : Lexeme} {us : List Lexeme} {p :
       separate : after.Closes ≡ after.Separates → ⊥
       separate h = cc
 
-      ended : {vs rest : List Lexeme} {more : List Ast} → Arguments levels vs more rest → vs ≡ t ∷ us → takes call (length (args ++ (y ∷ more))) ≡ true → Completes w operand frames (suc levels) (called call at (args ++ (y ∷ more))) rest → GoesOn w (cond (takes call (suc (length args))) (goes (Have (called call at (args ++ (x ∷ [])))) frames (suc levels)) wrong) us
+      ended : {vs rest : List Lexeme} {more : List Ast} → Arguments levels vs more rest → vs ≡ t ∷ us → takes call (length (args ++ (y ∷ more))) ≡ true → Completes w operand frames (suc levels) (called call at (args ++ (y ∷ more))) rest → GoesOn w (cond (takes call (suc (length args))) (goes (state (Have (called call at (args ++ (x ∷ [])))) frames (suc levels))) wrong) us
       ended (no_argument h) same k m =
           let count : length (args ++ (y ∷ [])) ≡ suc (length args) = omega (arith, length-append args (y ∷ [])) in
           let taken : takes call (suc (length args)) ≡ true = sym (ap (takes call) count) ∙ k in
-          subst (λ b. GoesOn w (cond b (goes (Have (called call at (args ++ (x ∷ [])))) frames (suc levels)) wrong) us) (sym taken)
+          subst (λ b. GoesOn w (cond b (goes (state (Have (called call at (args ++ (x ∷ [])))) frames (suc levels))) wrong) us) (sym taken)
           (subst₂ (λ tree rest. Completes w operand frames (suc levels) tree rest) (ap (λ z. called call at (args ++ (z ∷ []))) s.0) (tail_is same) m)
       ended (an_argument h o a) same k m = absurd (separate (sym e ∙ sym (ap after_of (head_is same)) ∙ h))
 
@@ -178,8 +177,8 @@ module _ {w : Ast} {levels : ℕ} {x : Ast} {t : Lexeme} {us : List Lexeme} {p :
       close : after.Separates ≡ after.Closes → ⊥
       close h = cc
 
-      next : Outcome
-      next = goes Want (Calling call at (args ++ (x ∷ [])) ∷ frames) levels
+      next : Outcome State
+      next = goes (state Want (Calling call at (args ++ (x ∷ [])) ∷ frames) levels)
 
       goes_on : {vs rest : List Lexeme} {more : List Ast} → Arguments levels vs more rest → vs ≡ t ∷ us → takes call (length (args ++ (y ∷ more))) ≡ true → Completes w operand frames (suc levels) (called call at (args ++ (y ∷ more))) rest → GoesOn w (cond (takes_more call (suc (length args))) next wrong) us
       goes_on (no_argument h) same k m = absurd (close (sym e ∙ sym (ap after_of (head_is same)) ∙ h))
@@ -223,7 +222,7 @@ module _ {w : Ast} {levels : ℕ} {x : Ast} {t : Lexeme} {us : List Lexeme} {p :
   close_from (Grouping ∷ frames) e m = in_group (free levels x (t ∷ us) p script (rank_pos p)) e m
   close_from (Calling call at args ∷ frames) e m = pick (takes call (suc (length args))) refl m
     where
-      pick : (b : Bool) → takes call (suc (length args)) ≡ b → GoesOn w (cond b (goes (Have (called call at (args ++ (x ∷ [])))) frames (suc levels)) wrong) us → Completes w p (Calling call at args ∷ frames) levels x (t ∷ us)
+      pick : (b : Bool) → takes call (suc (length args)) ≡ b → GoesOn w (cond b (goes (state (Have (called call at (args ++ (x ∷ [])))) frames (suc levels))) wrong) us → Completes w p (Calling call at args ∷ frames) levels x (t ∷ us)
       pick true k m =
           let count : length (args ++ (x ∷ [])) ≡ suc (length args) = omega (arith, length-append args (x ∷ [])) in
           in_call (free levels x (t ∷ us) p script (rank_pos p)) (no_argument e) (ap (takes call) count ∙ k) m
@@ -238,7 +237,7 @@ module _ {w : Ast} {levels : ℕ} {x : Ast} {t : Lexeme} {us : List Lexeme} {p :
           let list : (args ++ (x ∷ [])) ++ (y ∷ more) ≡ args ++ (x ∷ y ∷ more) = append_assoc args (x ∷ []) (y ∷ more) in
           in_call (free levels x (t ∷ us) p script (rank_pos p)) (an_argument e (merge r c) a) (sym (ap (λ xs. takes call (length xs)) list) ∙ k) (subst (λ xs. Completes w operand frames (suc levels) (called call at xs) rest) list m)
 
-      pick : (b : Bool) → GoesOn w (cond b (goes Want (Calling call at (args ++ (x ∷ [])) ∷ frames) levels) wrong) us → Completes w p (Calling call at args ∷ frames) levels x (t ∷ us)
+      pick : (b : Bool) → GoesOn w (cond b (goes (state Want (Calling call at (args ++ (x ∷ [])) ∷ frames) levels)) wrong) us → Completes w p (Calling call at args ∷ frames) levels x (t ∷ us)
       pick true m = back m.reads m.completes
       pick false m = absurd m
   separate_from frames e m = absurd m
@@ -253,7 +252,7 @@ pull_below (after.Combines Product sign) = omega arith
 pull_below after.Nothing = omega arith
 
 module _ (w : Ast) (t : Lexeme) (us : List Lexeme) (p : Part) (held : Held) where
-  placed_to : (a : After) → after_of t ≡ a → Rests (pull a) held.frames → pull a < rank p → Completes w p held.frames held.left held.tree (t ∷ us) → GoesOn w (placed a held) us
+  placed_to : (a : After) → after_of t ≡ a → Rests (pull a) held.frames → pull a < rank p → Completes w p held.frames held.left held.tree (t ∷ us) → GoesOn w (follows a held) us
   placed_to after.Closes e r h m = close_to m e r
   placed_to after.Separates e r h m = separate_to m e r
   placed_to (after.Joins line join) e r h m = join_to w held.left held.tree t us p line join held.frames e r h m
@@ -261,7 +260,7 @@ module _ (w : Ast) (t : Lexeme) (us : List Lexeme) (p : Part) (held : Held) wher
   placed_to (after.Combines line sign) e r h m = number_to w held.left held.tree t us p line sign held.frames e r h m
   placed_to after.Nothing e r h m = nothing_to m e r
 
-  placed_from : (a : After) → after_of t ≡ a → pull a < rank p → GoesOn w (placed a held) us → Completes w p held.frames held.left held.tree (t ∷ us)
+  placed_from : (a : After) → after_of t ≡ a → pull a < rank p → GoesOn w (follows a held) us → Completes w p held.frames held.left held.tree (t ∷ us)
   placed_from after.Closes e h m = close_from held.frames e m
   placed_from after.Separates e h m = separate_from held.frames e m
   placed_from (after.Joins line join) e h m = join_from w held.left held.tree t us p line join held.frames e h m
@@ -312,21 +311,21 @@ want_from w frames (suc levels) t [] (start.Called call) e m = absurd m
 want_from w frames (suc levels) t (u ∷ ts) (start.Called call) e m = call_from e m.0 (m.1).reads (m.1).completes
 want_from w frames levels t ts start.Nothing e m = absurd m
 
-opening_to : (w : Ast) (o : Outcome) (ts : List Lexeme) (b : Bool) → b ≡ true → GoesOn w o ts → GoesOn w (cond b o wrong) ts
+opening_to : (w : Ast) (o : Outcome State) (ts : List Lexeme) (b : Bool) → b ≡ true → GoesOn w o ts → GoesOn w (cond b o wrong) ts
 opening_to w o ts true e m = m
 opening_to w o ts false e m = absurd (false_is e)
 
-opening_from : (w : Ast) (o : Outcome) (ts : List Lexeme) (b : Bool) → GoesOn w (cond b o wrong) ts → (b ≡ true) × GoesOn w o ts
+opening_from : (w : Ast) (o : Outcome State) (ts : List Lexeme) (b : Bool) → GoesOn w (cond b o wrong) ts → (b ≡ true) × GoesOn w o ts
 opening_from w o ts true m = (refl, m)
 opening_from w o ts false m = absurd m
 
 -- what finishes the script with this token first finishes it behind the step
 pub step_to : (w : Ast) (phase : Phase) (frames : List Frame) (levels : ℕ) (t : Lexeme) (ts : List Lexeme) → Goes w phase frames levels (t ∷ ts) → GoesOn w (step phase frames levels t) ts
 step_to w Want frames levels t ts m = want_to m.reads m.completes
-step_to w Opening frames levels t ts m = opening_to w (goes Want frames levels) ts (opens t.token) m.0 m.1
+step_to w Opening frames levels t ts m = opening_to w (goes (state Want frames levels)) ts (opens t.token) m.0 m.1
 step_to w (Have x) frames levels t ts m = have_to w frames levels t ts x m
 
 pub step_from : (w : Ast) (phase : Phase) (frames : List Frame) (levels : ℕ) (t : Lexeme) (ts : List Lexeme) → IsStack operand frames → GoesOn w (step phase frames levels t) ts → Goes w phase frames levels (t ∷ ts)
 step_from w Want frames levels t ts s m = want_from w frames levels t ts (start_of t) refl m
-step_from w Opening frames levels t ts s m = opening_from w (goes Want frames levels) ts (opens t.token) m
+step_from w Opening frames levels t ts s m = opening_from w (goes (state Want frames levels)) ts (opens t.token) m
 step_from w (Have x) frames levels t ts s m = have_from w frames levels t ts x s m

@@ -1,16 +1,17 @@
 -- The grammar of match columns, and what the tokens of a text are by it.
-use Rattle.std.specs.Prelude.{◌≡◌, ◌≤◌, ℕ, Bool, true, false, ◌&&◌, ◌||◌, nat_le, min, not, codes, if◌then◌else◌, Option, Some, None, List, [], ◌∷◌, ◌++◌, IsUtf8}
+use Rattle.std.specs.Prelude.{◌≡◌, ◌≤◌, ℕ, Bool, true, false, ◌&&◌, ◌||◌, nat_le, min, not, unwrap_or, codes, if◌then◌else◌, Option, Some, None, List, [], ◌∷◌, IsUtf8}
 use Rattle.std.specs.Str.{bytes_eq}
 use Rattle.gr_base.specs.declared.fault.FaultKind.{FaultKind}
-use Rattle.gr_base.specs.declared.fault.FaultKind.TheVariants.{BadScript, BadNumber}
+use Rattle.gr_base.specs.declared.fault.FaultKind.TheVariants.{BadScript}
 use Rattle.gr_script.specs.declared.column.MatchColumn.{MatchColumn}
 use Rattle.gr_script.specs.declared.token.Symbol.TheVariants as s
-use Rattle.gr_script.specs.Text.{first_where}
-use Rattle.gr_script.specs.Token.{Token, symbol, digits, text, path, Lexeme}
+use Rattle.gr_script.specs.declared.token.Token.{Token}
+use Rattle.gr_script.specs.declared.token.Token.TheVariants.{Symbol as symbol, Digits as digits, Text as text, Path as path}
+use Rattle.gr_script.specs.Token.{Lexeme}
+use Rattle.gr_script.specs.Words.{greatest}
 use Rattle.gr_text.specs.Cut.{Cut}
 use Rattle.gr_text.specs.declared.fault.TextFault.{TextFault}
-use Rattle.gr_text.specs.declared.fault.TextFault.TheVariants.{Refused, NoMemory}
-use Rattle.gr_text.specs.Wrong.{IsWrong, wrong_kind}
+use Rattle.gr_text.specs.Sentences as of_grammar
 
 -- a truth or a call's name, which is no path by itself
 abbrev pub is_reserved : List ℕ → Bool
@@ -25,7 +26,7 @@ column_word (path word) = if is_reserved word then None else Some word
 
 -- A weight. One above the greatest of 32 bits stands as that one: no text that has one has columns.
 abbrev pub weight_of : Token → Option ℕ
-weight_of (digits n) = Some (min n 4294967295)
+weight_of (digits value) = Some (min (unwrap_or value greatest) 4294967295)
 weight_of _ = None
 
 -- whether a token is the mark before a weight
@@ -61,40 +62,29 @@ mutual
     no_column : {first : MatchColumn} → Further first [] (first ∷ [])
     another : {first : MatchColumn} {t : Lexeme} {ts : List Lexeme} {columns : List MatchColumn} → is_or t.token ≡ true → Columns ts columns → Further first (t ∷ ts) (first ∷ columns)
 
--- the tokens, or these and some more, are columns; a level is never opened
-abbrev pub BeginsColumns : ℕ → List Lexeme → Type 0
-BeginsColumns levels ts = (more : List Lexeme) × (columns : List MatchColumn) × Columns (ts ++ more) columns
-
--- the tokens are columns
-abbrev pub AreColumns : ℕ → List Lexeme → Type 0
-AreColumns levels ts = (columns : List MatchColumn) × Columns ts columns
+-- the tokens are these columns; a level is never opened
+abbrev pub AreColumns : ℕ → List Lexeme → List MatchColumn → Type 0
+AreColumns levels ts columns = Columns ts columns
 
 -- whether a token is a number that is no weight
 abbrev pub is_no_weight : Token → Bool
 is_no_weight (symbol mark) = false
-is_no_weight (digits n) = not (nat_le 1 n && nat_le n 1000)
+is_no_weight (digits None) = true
+is_no_weight (digits (Some n)) = not (nat_le 1 n && nat_le n 1000)
 is_no_weight (text bytes) = false
 is_no_weight (path word) = false
 
--- the place of the first number outside 1 to 1,000
-abbrev pub first_no_weight : List Lexeme → Option ℕ
-first_no_weight ts = first_where is_no_weight ts
-
--- what is cut so is these columns
-pub record IsColumns (cut : Cut Token) (columns : List MatchColumn) : Type 0 where
-  pub clean : cut.stranger ≡ None
-  pub sentence : Columns cut.tokens columns
-  pub fits : first_no_weight cut.tokens ≡ None
+-- what is cut so is these columns, in which each weight is 1 to 1,000
+abbrev pub IsColumns : Cut Token → List MatchColumn → Type 0
+IsColumns cut columns = of_grammar.IsRead AreColumns is_no_weight cut columns
 
 -- What is cut so is refused as columns, for this and at this place.
-pub data AreRefused (cut : Cut Token) (kind : FaultKind) (at : ℕ) : Type 0 where
-  wrong : (is_deep : Bool) → IsWrong BeginsColumns AreColumns cut is_deep at → kind ≡ wrong_kind BadScript is_deep → AreRefused cut kind at
-  no_weight : (columns : List MatchColumn) → cut.stranger ≡ None → Columns cut.tokens columns → first_no_weight cut.tokens ≡ Some at → kind ≡ BadNumber → AreRefused cut kind at
+abbrev pub AreRefused : Cut Token → FaultKind → ℕ → Type 0
+AreRefused cut kind at = of_grammar.IsRefused AreColumns is_no_weight BadScript cut kind at
 
 -- What is cut so is refused as the fault says. Nothing is said of want of memory.
 abbrev pub AreRefusal : Cut Token → TextFault → Type 0
-AreRefusal cut (Refused kind at) = AreRefused cut kind at
-AreRefusal cut NoMemory = Unit {0}
+AreRefusal cut fault = of_grammar.IsRefusal AreColumns is_no_weight BadScript cut fault
 
 -- the paths are UTF-8, and each weight is 1 to 1,000
 pub record IsMadeColumn (of : MatchColumn) : Type 0 where

@@ -1,5 +1,5 @@
 -- The grammar of scripts, as a relation between tokens and trees.
-use Rattle.std.specs.Prelude.{◌≡◌, ℕ, suc, true, List, [], ◌∷◌, ◌++◌, length}
+use Rattle.std.specs.Prelude.{◌≡◌, ℕ, suc, true, List, [], ◌∷◌, length}
 use Rattle.gr_expr.specs.declared.ast.Arith.{Arith}
 use Rattle.gr_expr.specs.declared.ast.Ast.{Ast}
 use Rattle.gr_expr.specs.declared.ast.Combined.{Combined}
@@ -69,7 +69,3 @@ mutual
 -- the tokens are a script with at most so many levels, of this tree
 abbrev pub Sentence : ℕ → List Lexeme → Ast → Type 0
 Sentence levels ts tree = Reads script levels ts tree []
-
--- the tokens, or these and some more, are a script with at most so many levels
-abbrev pub Begins : ℕ → List Lexeme → Type 0
-Begins levels ts = (more : List Lexeme) × (tree : Ast) × Sentence levels (ts ++ more) tree

@@ -6,7 +6,4 @@ pub mod Text
 pub mod Columns
 pub mod ColumnSteps
 pub mod Made
-pub mod Lexing
-pub mod Turns
 pub mod Machine
-pub mod Shown

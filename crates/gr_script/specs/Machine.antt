@@ -7,8 +7,6 @@ use Rattle.gr_expr.specs.declared.ast.FieldOp.{FieldOp}
 use Rattle.gr_expr.specs.declared.ast.Join.{Join}
 use Rattle.gr_script.specs.declared.frame.Frame.{Frame}
 use Rattle.gr_script.specs.declared.frame.Frame.TheVariants.{Joining, Testing, Combining, Signing, Grouping, Calling}
-use Rattle.gr_script.specs.declared.frame.Phase.{Phase}
-use Rattle.gr_script.specs.declared.frame.Phase.TheVariants.{Want, Opening, Have}
 use Rattle.gr_script.specs.declared.grammar.After.{After}
 use Rattle.gr_script.specs.declared.grammar.After.TheVariants as after
 use Rattle.gr_script.specs.declared.grammar.Call.{Call}
@@ -19,11 +17,24 @@ use Rattle.gr_script.specs.declared.grammar.NumberLine.{NumberLine}
 use Rattle.gr_script.specs.declared.grammar.NumberLine.TheVariants.{Sum, Product}
 use Rattle.gr_script.specs.declared.grammar.Start.{Start}
 use Rattle.gr_script.specs.declared.grammar.Start.TheVariants as start
-use Rattle.gr_script.specs.declared.stop.Stop.{Stop}
-use Rattle.gr_script.specs.declared.stop.Stop.TheVariants as stop
+use Rattle.gr_script.specs.declared.reader.Next.{Next}
+use Rattle.gr_script.specs.declared.reader.Next.TheVariants as next
 use Rattle.gr_script.specs.Token.{Lexeme}
 use Rattle.gr_script.specs.Trees.{place_of, tested, signed, called, takes, link, term}
 use Rattle.gr_script.specs.Words.{start_of, after_of, opens}
+use Rattle.gr_text.specs.Reading.{Outcome, goes, deep, wrong}
+use Rattle.gr_text.specs.declared.stop.Stop.{Stop}
+use Rattle.gr_text.specs.declared.stop.Stop.TheVariants as stop
+
+-- what comes next: an operand, the bracket that opens a call's arguments, or what may follow this operand
+pub data Phase : Type 0 where
+  Want : Phase
+  Opening : Phase
+  Have : Ast → Phase
+
+-- what comes next, the parts that are begun, the last one first, and how many levels may still be opened
+pub data State : Type 0 where
+  state : Phase → List Frame → ℕ → State
 
 -- how tightly a line of conditions binds
 abbrev pub tightness : ConditionLine → ℕ
@@ -120,34 +131,68 @@ reduced pulled tree (frame ∷ frames) left =
     if nat_lt pulled (hold frame) then reduced pulled (closed frame tree) frames (released frame left)
     else record { tree = tree; frames = frame ∷ frames; left = left }
 
--- what comes of a token: the script may go on, too many levels are open, or no script goes on so
-pub data Outcome : Type 0 where
-  goes : Phase → List Frame → ℕ → Outcome
-  deep : Outcome
-  wrong : Outcome
-
 -- a join behind this operand
-abbrev pub join_on : ConditionLine → Join → Ast → List Frame → ℕ → Outcome
-join_on Any join tree (Joining Any first links before ∷ frames) left = goes Want (Joining Any first (links ++ link before tree ∷ []) join ∷ frames) left
-join_on All join tree (Joining All first links before ∷ frames) left = goes Want (Joining All first (links ++ link before tree ∷ []) join ∷ frames) left
-join_on line join tree frames left = goes Want (Joining line tree [] join ∷ frames) left
+abbrev pub join_on : ConditionLine → Join → Ast → List Frame → ℕ → Outcome State
+join_on Any join tree (Joining Any first links before ∷ frames) left = goes (state Want (Joining Any first (links ++ link before tree ∷ []) join ∷ frames) left)
+join_on All join tree (Joining All first links before ∷ frames) left = goes (state Want (Joining All first (links ++ link before tree ∷ []) join ∷ frames) left)
+join_on line join tree frames left = goes (state Want (Joining line tree [] join ∷ frames) left)
+
+-- a row of conditions
+abbrev pub IsRow : Frame → Type 0
+IsRow (Joining line first links join) = Unit {0}
+IsRow _ = ⊥
+
+-- a row of numbers
+abbrev pub IsNumberRow : Frame → Type 0
+IsNumberRow (Combining line first terms arith) = Unit {0}
+IsNumberRow _ = ⊥
+
+-- a call
+abbrev pub IsCall : Frame → Type 0
+IsCall (Calling call at args) = Unit {0}
+IsCall _ = ⊥
+
+-- a part is begun, and of the last one this holds
+abbrev pub TopIs : (Frame → Type 0) → List Frame → Type 0
+TopIs P [] = ⊥
+TopIs P (frame ∷ frames) = P frame
+
+-- the begun parts, the last one changed so
+abbrev pub on_top : (Frame → Frame) → List Frame → List Frame
+on_top change [] = []
+on_top change (frame ∷ frames) = change frame ∷ frames
+
+-- a row of conditions with one more, and the sign behind it
+abbrev pub linked : Join → Ast → Frame → Frame
+linked join tree (Joining line first links before) = Joining line first (links ++ link before tree ∷ []) join
+linked join tree frame = frame
+
+-- a row of numbers with one more, and the sign behind it
+abbrev pub combined : Arith → Ast → Frame → Frame
+combined arith tree (Combining line first terms before) = Combining line first (terms ++ term before tree ∷ []) arith
+combined arith tree frame = frame
+
+-- a call with one more argument
+abbrev pub argued : Ast → Frame → Frame
+argued tree (Calling call at args) = Calling call at (args ++ tree ∷ [])
+argued tree frame = frame
 
 -- a comparison or a search behind this operand
-abbrev pub test_on : FieldOp → Ast → List Frame → ℕ → Outcome
+abbrev pub test_on : FieldOp → Ast → List Frame → ℕ → Outcome State
 test_on test tree (Testing before left_side ∷ frames) left = wrong
-test_on test tree frames left = goes Want (Testing test tree ∷ frames) left
+test_on test tree frames left = goes (state Want (Testing test tree ∷ frames) left)
 
 -- a sign of numbers behind this operand
-abbrev pub combine_on : NumberLine → Arith → Ast → List Frame → ℕ → Outcome
-combine_on Sum arith tree (Combining Sum first terms before ∷ frames) left = goes Want (Combining Sum first (terms ++ term before tree ∷ []) arith ∷ frames) left
-combine_on Product arith tree (Combining Product first terms before ∷ frames) left = goes Want (Combining Product first (terms ++ term before tree ∷ []) arith ∷ frames) left
-combine_on line arith tree frames left = goes Want (Combining line tree [] arith ∷ frames) left
+abbrev pub combine_on : NumberLine → Arith → Ast → List Frame → ℕ → Outcome State
+combine_on Sum arith tree (Combining Sum first terms before ∷ frames) left = goes (state Want (Combining Sum first (terms ++ term before tree ∷ []) arith ∷ frames) left)
+combine_on Product arith tree (Combining Product first terms before ∷ frames) left = goes (state Want (Combining Product first (terms ++ term before tree ∷ []) arith ∷ frames) left)
+combine_on line arith tree frames left = goes (state Want (Combining line tree [] arith ∷ frames) left)
 
 -- a closing bracket behind this operand
-abbrev pub close_on : Ast → List Frame → ℕ → Outcome
-close_on tree (Grouping ∷ frames) left = goes (Have tree) frames (suc left)
+abbrev pub close_on : Ast → List Frame → ℕ → Outcome State
+close_on tree (Grouping ∷ frames) left = goes (state (Have tree) frames (suc left))
 close_on tree (Calling call at args ∷ frames) left =
-    if takes call (suc (length args)) then goes (Have (called call at (args ++ tree ∷ []))) frames (suc left) else wrong
+    if takes call (suc (length args)) then goes (state (Have (called call at (args ++ tree ∷ []))) frames (suc left)) else wrong
 close_on tree frames left = wrong
 
 -- whether a call takes another argument after so many
@@ -155,70 +200,79 @@ abbrev pub takes_more : Call → ℕ → Bool
 takes_more Between count = nat_lt count 5
 takes_more InValues count = true
 
+-- whether the last begun part is a call that takes more than one argument more
+abbrev pub may_separate : List Frame → Bool
+may_separate (Calling call at args ∷ frames) = takes_more call (suc (length args))
+may_separate frames = false
+
 -- a comma behind this operand
-abbrev pub separate_on : Ast → List Frame → ℕ → Outcome
+abbrev pub separate_on : Ast → List Frame → ℕ → Outcome State
 separate_on tree (Calling call at args ∷ frames) left =
-    if takes_more call (suc (length args)) then goes Want (Calling call at (args ++ tree ∷ []) ∷ frames) left else wrong
+    if takes_more call (suc (length args)) then goes (state Want (Calling call at (args ++ tree ∷ []) ∷ frames) left) else wrong
 separate_on tree frames left = wrong
 
 -- what follows an operand whose tighter parts are closed
-abbrev pub placed : After → Held → Outcome
-placed after.Closes held = close_on held.tree held.frames held.left
-placed after.Separates held = separate_on held.tree held.frames held.left
-placed (after.Joins line join) held = join_on line join held.tree held.frames held.left
-placed (after.Tests test) held = test_on test held.tree held.frames held.left
-placed (after.Combines line arith) held = combine_on line arith held.tree held.frames held.left
-placed after.Nothing held = wrong
+abbrev pub follows : After → Held → Outcome State
+follows after.Closes held = close_on held.tree held.frames held.left
+follows after.Separates held = separate_on held.tree held.frames held.left
+follows (after.Joins line join) held = join_on line join held.tree held.frames held.left
+follows (after.Tests test) held = test_on test held.tree held.frames held.left
+follows (after.Combines line arith) held = combine_on line arith held.tree held.frames held.left
+follows after.Nothing held = wrong
 
 -- what an operand begins with, at this place
-abbrev pub begun : Start → ℕ → List Frame → ℕ → Outcome
-begun (start.Leaf tree) at frames left = goes (Have tree) frames left
+abbrev pub begun : Start → ℕ → List Frame → ℕ → Outcome State
+begun (start.Leaf tree) at frames left = goes (state (Have tree) frames left)
 begun (start.Signed sign) at frames zero = deep
-begun (start.Signed sign) at frames (suc left) = goes Want (Signing sign at ∷ frames) left
+begun (start.Signed sign) at frames (suc left) = goes (state Want (Signing sign at ∷ frames) left)
 begun start.Grouped at frames zero = deep
-begun start.Grouped at frames (suc left) = goes Want (Grouping ∷ frames) left
+begun start.Grouped at frames (suc left) = goes (state Want (Grouping ∷ frames) left)
 begun (start.Called call) at frames zero = deep
-begun (start.Called call) at frames (suc left) = goes Opening (Calling call at [] ∷ frames) left
+begun (start.Called call) at frames (suc left) = goes (state Opening (Calling call at [] ∷ frames) left)
 begun start.Nothing at frames left = wrong
 
 -- the next token
-abbrev pub step : Phase → List Frame → ℕ → Lexeme → Outcome
+abbrev pub step : Phase → List Frame → ℕ → Lexeme → Outcome State
 step Want frames left t = begun (start_of t) t.at frames left
-step Opening frames left t = if opens t.token then goes Want frames left else wrong
-step (Have tree) frames left t = placed (after_of t) (reduced (pull (after_of t)) tree frames left)
+step Opening frames left t = if opens t.token then goes (state Want frames left) else wrong
+step (Have tree) frames left t = follows (after_of t) (reduced (pull (after_of t)) tree frames left)
 
--- tokens, from the left
-abbrev pub run : Outcome → List Lexeme → Outcome
-run outcome [] = outcome
-run (goes phase frames left) (t ∷ ts) = run (step phase frames left t) ts
-run deep (t ∷ ts) = deep
-run wrong (t ∷ ts) = wrong
+-- the same of a state
+abbrev pub step_of : State → Lexeme → Outcome State
+step_of (state phase frames left) t = step phase frames left t
 
 -- before the first token, with so many levels to open
-abbrev pub begin : ℕ → Outcome
-begin levels = goes Want [] levels
+abbrev pub begin : ℕ → State
+begin levels = state Want [] levels
 
 -- the tree, where no part but the script itself is still open
 abbrev pub whole : Ast → List Frame → Option Ast
 whole tree [] = Some tree
 whole tree (frame ∷ frames) = None
 
+-- the same of an operand whose tighter parts are closed
+abbrev pub whole_of : Held → Option Ast
+whole_of held = whole held.tree held.frames
+
 -- the tree of a script that ends here
 abbrev pub finished : Phase → List Frame → ℕ → Option Ast
 finished Want frames left = None
 finished Opening frames left = None
-finished (Have tree) frames left = let held = reduced 0 tree frames left in whole held.tree held.frames
+finished (Have tree) frames left = whole_of (reduced 0 tree frames left)
 
--- What a step answers is this outcome, with these parts begun and so many levels left, unless memory ran out.
-abbrev pub Answers : Result Phase Stop → List Frame → ℕ → Outcome → Type 0
-Answers (Ok phase) frames left outcome = outcome ≡ goes phase frames left
-Answers (Err stop.Deep) frames left outcome = outcome ≡ deep
-Answers (Err stop.Wrong) frames left outcome = outcome ≡ wrong
-Answers (Err stop.NoMemory) frames left outcome = Unit {0}
+-- the tree of a script that ends in this state
+abbrev pub finished_of : State → Option Ast
+finished_of (state phase frames left) = finished phase frames left
 
--- what the end answers is this tree, or that there is none, unless memory ran out
-abbrev pub Finishes : Result Ast Stop → Option Ast → Type 0
-Finishes (Ok tree) end = end ≡ Some tree
-Finishes (Err stop.Deep) end = ⊥
-Finishes (Err stop.Wrong) end = end ≡ None
-Finishes (Err stop.NoMemory) end = Unit {0}
+-- what the code says comes next, with the operand that was read last
+abbrev pub phase_of : Next → Ast → Phase
+phase_of next.Want tree = Want
+phase_of next.Opening tree = Opening
+phase_of next.Have tree = Have tree
+
+-- What comes of a token is this outcome, with this operand, these parts begun and so many levels left, unless memory ran out.
+abbrev pub Comes : Result Next Stop → Ast → List Frame → ℕ → Outcome State → Type 0
+Comes (Ok next) tree frames left outcome = outcome ≡ goes (state (phase_of next tree) frames left)
+Comes (Err stop.Deep) tree frames left outcome = outcome ≡ deep
+Comes (Err stop.Wrong) tree frames left outcome = outcome ≡ wrong
+Comes (Err stop.NoMemory) tree frames left outcome = Unit {0}

@@ -1,21 +1,16 @@
 -- Tokens of a script, and where they stand.
-use Rattle.std.specs.Prelude.{ℕ, suc, ◌==◌, ◌&&◌, if◌then◌else◌, Option, Some, None, option_map, List, [], ◌∷◌, take, slice_index}
+use Rattle.std.specs.Prelude.{ℕ, suc, ◌==◌, ◌&&◌, if◌then◌else◌, Option, Some, None, option_map, List, [], ◌∷◌, take, slice_index, IsUtf8}
 use Rattle.std.specs.Char.{is_ascii_digit}
 use Rattle.std.specs.Str.{byte}
 use Rattle.gr_text.specs.Characters.{is_name_start}
 use Rattle.gr_text.specs.Cut.{Placed, Cut, cut}
-use Rattle.gr_text.specs.Digits.{digits_len, number_from}
+use Rattle.gr_text.specs.Digits.{digits_len, number_from, word_of}
 use Rattle.gr_text.specs.Paths.{path_len}
 use Rattle.gr_text.specs.Strings.{string_from}
 use Rattle.gr_script.specs.declared.token.Symbol.{Symbol}
 use Rattle.gr_script.specs.declared.token.Symbol.TheVariants as s
-
--- what a script is cut into
-pub data Token : Type 0 where
-  symbol : Symbol → Token
-  digits : ℕ → Token
-  text : List ℕ → Token
-  path : List ℕ → Token
+use Rattle.gr_script.specs.declared.token.Token.{Token}
+use Rattle.gr_script.specs.declared.token.Token.TheVariants.{Symbol as symbol, Digits as digits, Text as text, Path as path}
 
 -- a token at its byte place
 abbrev pub Lexeme : Type 0
@@ -64,7 +59,7 @@ text_token string = option_map (λ string. (text string.0, suc string.1)) string
 -- digits, where no letter or `_` follows them
 abbrev pub digits_token : List ℕ → Option (Token × ℕ)
 digits_token bytes =
-    if is_name_start (slice_index bytes (digits_len bytes)) then None else Some (digits (number_from bytes), digits_len bytes)
+    if is_name_start (slice_index bytes (digits_len bytes)) then None else Some (digits (word_of (number_from bytes)), digits_len bytes)
 
 -- names joined by dots
 abbrev pub path_token : List ℕ → Option (Token × ℕ)
@@ -82,3 +77,10 @@ token_at (c ∷ cs) =
 -- a script's tokens
 abbrev pub tokens_of : List ℕ → Cut Token
 tokens_of script = cut token_at script
+
+-- the texts that a token holds are UTF-8
+abbrev pub IsText : Token → Type 0
+IsText (symbol mark) = Unit {0}
+IsText (digits value) = Unit {0}
+IsText (text bytes) = IsUtf8 bytes
+IsText (path word) = IsUtf8 word

@@ -1,5 +1,5 @@
 -- What the grammar asks of a token: what an operand may begin with, and what may follow one.
-use Rattle.std.specs.Prelude.{ℕ, Bool, true, false, List, min, codes, if◌then◌else◌}
+use Rattle.std.specs.Prelude.{ℕ, Bool, true, false, List, None, unwrap_or, codes, if◌then◌else◌}
 use Rattle.std.specs.Str.{bytes_eq}
 use Rattle.gr_base.specs.declared.compare.Cmp.TheVariants as cmp
 use Rattle.gr_expr.specs.declared.ast.Ast.TheVariants as ast
@@ -17,7 +17,9 @@ use Rattle.gr_script.specs.declared.grammar.Start.{Start}
 use Rattle.gr_script.specs.declared.grammar.Start.TheVariants as start
 use Rattle.gr_script.specs.declared.token.Symbol.{Symbol}
 use Rattle.gr_script.specs.declared.token.Symbol.TheVariants as s
-use Rattle.gr_script.specs.Token.{Token, symbol, digits, text, path, Lexeme}
+use Rattle.gr_script.specs.declared.token.Token.{Token}
+use Rattle.gr_script.specs.declared.token.Token.TheVariants.{Symbol as symbol, Digits as digits, Text as text, Path as path}
+use Rattle.gr_script.specs.Token.{Lexeme}
 
 -- the greatest number of 64 bits
 abbrev pub greatest : ℕ
@@ -39,10 +41,10 @@ start_with s.Not = start.Signed sign.Not
 start_with s.Minus = start.Signed sign.Minus
 start_with _ = start.Nothing
 
--- What an operand that begins with this token is. A number above the greatest stands as that one: no text that has one has a tree.
+-- What an operand that begins with this token is. A number above the greatest of 64 bits stands as that one: no text that has one has a tree.
 abbrev pub start_at : ℕ → Token → Start
 start_at at (symbol mark) = start_with mark
-start_at at (digits n) = start.Leaf (ast.Number at (min n greatest))
+start_at at (digits value) = start.Leaf (ast.Number at (unwrap_or value greatest))
 start_at at (text bytes) = start.Leaf (ast.Text at bytes)
 start_at at (path word) = word_at at word
 
@@ -87,3 +89,8 @@ after_of t = after_by t.token
 abbrev pub opens : Token → Bool
 opens (symbol s.Open) = true
 opens _ = false
+
+-- whether a token is a number above the greatest of 64 bits
+abbrev pub is_large : Token → Bool
+is_large (digits None) = true
+is_large _ = false

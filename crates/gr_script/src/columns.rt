@@ -3,19 +3,19 @@ ghost use Rattle.std.specs.Prelude.{◌≡◌, List, Some};
 ghost use Rattle.gr_script.specs.declared.column.MatchColumn.{MatchColumn as Column};
 ghost use Rattle.gr_script.specs.Columns.{column_word, weight_of, is_star, is_or, is_reserved};
 ghost use Rattle.gr_script.specs.ColumnSteps.{Steps, column_step, path_read, weight_read, joined};
-ghost use Rattle.gr_script.specs.Shown.{shown, shown_token};
+ghost use Rattle.gr_text.specs.Lexing.{placed};
 
 use crate::column::{MatchColumn, Place};
-use crate::stop::Stop;
-use crate::token::{Lexeme, Symbol, Token};
+use crate::token::{Symbol, Token};
+use gr_text::{Lexeme, Stop};
 
 /// The next token.
 pub(crate) fn column_step(
     place: Place,
     columns: &mut Vec<MatchColumn>,
-    lexeme: Lexeme,
+    lexeme: Lexeme<Token>,
 ) -> Result<Place, Stop>
-    ensures { Steps result columns.new.items (column_step place columns.old.items (shown lexeme)) }
+    ensures { Steps result columns.new.items (column_step place columns.old.items (placed lexeme)) }
 {
     match place {
         Place::Path => path_read(lexeme),
@@ -32,8 +32,8 @@ pub(crate) fn column_step(
 }
 
 /// A column's path.
-fn path_read(lexeme: Lexeme) -> Result<Place, Stop>
-    ensures { (columns : List Column) → Steps result columns (path_read (column_word (shown_token lexeme.token)) lexeme.at columns) }
+fn path_read(lexeme: Lexeme<Token>) -> Result<Place, Stop>
+    ensures { (columns : List Column) → Steps result columns (path_read (column_word lexeme.token) lexeme.at columns) }
 {
     let Lexeme { at, token } = lexeme;
     match token {
@@ -64,7 +64,7 @@ fn is_reserved(word: &[u8]) -> bool
 
 /// A column's weight.
 fn weight_read(token: &Token, first: MatchColumn) -> Result<Place, Stop>
-    ensures { (columns : List Column) → Steps result columns (weight_read (weight_of (shown_token token.now)) first columns) }
+    ensures { (columns : List Column) → Steps result columns (weight_read (weight_of token.now) first columns) }
 {
     match token {
         Token::Digits(value) => Ok(Place::Weighted(MatchColumn {
@@ -78,7 +78,7 @@ fn weight_read(token: &Token, first: MatchColumn) -> Result<Place, Stop>
 
 /// A weight, or the greatest number of 32 bits where it is above that.
 fn weight(value: Option<u64>) -> u32
-    ensures { weight_of (shown_token (Token.Digits value)) ≡ Some result }
+    ensures { weight_of (Token.Digits value) ≡ Some result }
 {
     match value {
         Some(value) if value < 4_294_967_295 => value as u32,
@@ -88,7 +88,7 @@ fn weight(value: Option<u64>) -> u32
 
 /// `||` behind a column.
 fn join(token: &Token, first: MatchColumn, columns: &mut Vec<MatchColumn>) -> Result<Place, Stop>
-    ensures { Steps result columns.new.items (joined (is_or (shown_token token.now)) first columns.old.items) }
+    ensures { Steps result columns.new.items (joined (is_or token.now) first columns.old.items) }
 {
     if is_or(token) {
         columns.push(first)?;
@@ -99,13 +99,13 @@ fn join(token: &Token, first: MatchColumn, columns: &mut Vec<MatchColumn>) -> Re
 }
 
 fn is_star(token: &Token) -> bool
-    ensures { result ≡ is_star (shown_token token.now) }
+    ensures { result ≡ is_star token.now }
 {
     matches!(token, Token::Symbol(Symbol::Star))
 }
 
 fn is_or(token: &Token) -> bool
-    ensures { result ≡ is_or (shown_token token.now) }
+    ensures { result ≡ is_or token.now }
 {
     matches!(token, Token::Symbol(Symbol::Or))
 }

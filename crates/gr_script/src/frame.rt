@@ -1,9 +1,11 @@
 // What the reader keeps of a script while it reads on: parts that are begun and not finished.
-ghost use Rattle.std.specs.Prelude.{◌≡◌};
+ghost use Rattle.std.specs.Prelude.{◌≡◌, ◌∷◌, OnOk};
+ghost use Rattle.gr_script.specs.Machine.{IsCall, IsNumberRow, IsRow, argued, combined, level, linked};
 
 use crate::grammar::{Call, ConditionLine, NumberLine, Sign};
+use gr_base::NoMemory;
 use gr_expr::{Arith, Ast, Combined, FieldOp, Join, Joined};
-use sqlite_items::Items;
+use sqlite_items::{Boxed, Items};
 
 /// A part that is begun, and waits for the operand that is being read.
 #[derive(Drop)]
@@ -11,19 +13,19 @@ pub(crate) enum Frame {
     /// Conditions in a row, with the sign before the one that is read.
     Joining {
         line: ConditionLine,
-        first: Ast,
+        first: Boxed<Ast>,
         links: Items<Joined>,
         join: Join,
     },
     /// A comparison or a search, with its left side.
     Testing {
         test: FieldOp,
-        left: Ast,
+        left: Boxed<Ast>,
     },
     /// Numbers in a row, with the sign before the one that is read.
     Combining {
         line: NumberLine,
-        first: Ast,
+        first: Boxed<Ast>,
         terms: Items<Combined>,
         arith: Arith,
     },
@@ -72,15 +74,65 @@ impl Frame {
             Frame::Calling { .. } => 1,
         }
     }
-}
 
-/// What comes next.
-#[derive(Drop)]
-pub(crate) enum Phase {
-    /// An operand.
-    Want,
-    /// The bracket that opens a call's arguments.
-    Opening,
-    /// What may follow this operand.
-    Have(Ast),
+    /// One more condition of a row, with the sign behind it.
+    pub(crate) fn link(&mut self, join: Join, tree: Ast) -> Result<(), NoMemory>
+        requires { IsRow self.old }
+        ensures made { OnOk result (self.new ≡ linked join tree self.old) }
+        ensures level { level self.new ≡ level self.old }
+    {
+        match self {
+            Frame::Joining {
+                links,
+                join: before,
+                ..
+            } => {
+                links.push(Joined {
+                    join: *before,
+                    of: tree,
+                })?;
+                *before = join;
+                Ok(())
+            }
+            _ => unreachable!(),
+        }
+    }
+
+    /// One more number of a row, with the sign behind it.
+    pub(crate) fn combine(&mut self, arith: Arith, tree: Ast) -> Result<(), NoMemory>
+        requires { IsNumberRow self.old }
+        ensures made { OnOk result (self.new ≡ combined arith tree self.old) }
+        ensures level { level self.new ≡ level self.old }
+    {
+        match self {
+            Frame::Combining {
+                terms,
+                arith: before,
+                ..
+            } => {
+                terms.push(Combined {
+                    arith: *before,
+                    of: tree,
+                })?;
+                *before = arith;
+                Ok(())
+            }
+            _ => unreachable!(),
+        }
+    }
+
+    /// One more argument of a call.
+    pub(crate) fn argue(&mut self, tree: Ast) -> Result<(), NoMemory>
+        requires { IsCall self.old }
+        ensures made { OnOk result (self.new ≡ argued tree self.old) }
+        ensures level { level self.new ≡ level self.old }
+    {
+        match self {
+            Frame::Calling { args, .. } => {
+                args.push(tree)?;
+                Ok(())
+            }
+            _ => unreachable!(),
+        }
+    }
 }

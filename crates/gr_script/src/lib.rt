@@ -6,19 +6,16 @@ mod column;
 mod columns;
 mod frame;
 mod grammar;
-mod lexer;
 mod match_columns;
 mod reader;
 mod script;
 mod stack;
-mod stop;
 mod symbols;
 #[cfg(test)]
 mod tests;
 mod token;
 mod tokenizer;
 mod trees;
-mod turn;
 mod words;
 
 pub use answers::{one_answer_as_columns, one_answer_as_script};

@@ -1,90 +1,195 @@
 // How a script is read from the left in one pass: a step for each token.
-ghost use Rattle.std.specs.Prelude.{◌≡◌, [], ◌∷◌, ◌++◌, suc, reverse, IfOk, OnErr, Err};
-ghost use Rattle.gr_script.specs.Machine.{Answers, Finishes, finished, whole, Held, begun, step, placed, pull, reduced, join_on, test_on, combine_on, close_on, separate_on, takes_more, is_row, is_number_row, is_test};
-ghost use Rattle.gr_script.specs.Shown.{shown, shown_token};
+ghost use Rattle.std.specs.Prelude.{◌≡◌, [], ◌∷◌, ◌++◌, suc, reverse, IfOk, OnErr, OnOk, Err};
+ghost use Rattle.gr_text.specs.Lexing.{placed};
+ghost use Rattle.gr_text.specs.Reading.{Answers, Finishes};
+ghost use Rattle.gr_script.specs.Machine.{Comes, begun, close_on, combine_on, follows, is_number_row, is_row, is_test, join_on, may_separate, phase_of, pull, reduced, separate_on, step, step_of, takes_more, test_on, whole_of};
 ghost use Rattle.gr_script.specs.Trees.{takes};
 ghost use Rattle.gr_script.specs.Words.{opens};
 
-use crate::frame::{Frame, Phase};
+use crate::frame::Frame;
 use crate::grammar::{After, Call, ConditionLine, NumberLine, Start};
 use crate::stack::Stack;
-use crate::stop::Stop;
-use crate::token::{Lexeme, Token};
-use crate::trees::{called, closed};
-use crate::words::{after_by, opens, start_of};
+use crate::token::Token;
+use crate::trees::{called, close_part, take_tree};
+use crate::words::{after_by, is_large, opens, start_of};
 use gr_base::NoMemory;
-use gr_expr::{Arith, Ast, Combined, FieldOp, Join, Joined};
-use sqlite_items::Items;
+use gr_expr::{Arith, Ast, FieldOp, Join};
+use gr_text::{Lexeme, Reader, Stop};
+use sqlite_items::{Boxed, Items};
 use std::alloc::Global;
+use std::marker::Model;
 
-/// The next token.
-pub(crate) fn step(
+/// What comes next.
+#[derive(Clone, Copy)]
+pub(crate) enum Next {
+    /// An operand.
+    Want,
+    /// The bracket that opens a call's arguments.
+    Opening,
+    /// What may follow the operand that was read.
+    Have,
+}
+
+/// Reads a script token by token. Its tree is the operand that was read last, where one was.
+#[derive(Drop)]
+pub(crate) struct ScriptReader {
     alloc: Global,
-    phase: Phase,
-    stack: &mut Stack,
-    lexeme: Lexeme,
-) -> Result<Phase, Stop>
-    ensures { Answers result (reverse stack.new.frames.items) stack.new.left (step phase (reverse stack.old.frames.items) stack.old.left (shown lexeme)) }
-{
-    match phase {
-        Phase::Want => {
-            let at = lexeme.at;
-            begun(alloc, start_of(lexeme), at, stack)
+    next: Next,
+    tree: Ast,
+    stack: Stack,
+}
+
+impl Model for ScriptReader {
+    ghost use Rattle.std.specs.Prelude.{reverse};
+    ghost use Rattle.std.specs.Coded.{codes};
+    ghost use Rattle.gr_expr.specs.contracts.ast.Ast as ast;
+    ghost use Rattle.gr_script.specs.Machine.{State, phase_of, state};
+
+    ghost Value = { State };
+
+    ghost coded = { Prim.hlevel (codes, ast.the_row.coded) };
+
+    ghost view = { λ reader. state (phase_of reader.next reader.tree) (reverse reader.stack.frames.items) reader.stack.left };
+}
+
+impl ScriptReader {
+    ghost use Rattle.gr_text.specs.Wrong.{most_levels};
+    ghost use Rattle.gr_script.specs.Machine.{begin};
+
+    /// Nothing is read.
+    pub(crate) fn new(alloc: Global) -> ScriptReader
+        ensures { result ≡ begin most_levels }
+    {
+        ScriptReader {
+            alloc,
+            next: Next::Want,
+            tree: Ast::All { at: 0 },
+            stack: Stack::new(alloc),
         }
-        Phase::Opening if opens(&lexeme.token) => Ok(Phase::Want),
-        Phase::Opening => Err(Stop::Wrong),
-        Phase::Have(tree) => followed(alloc, after_by(&lexeme.token), tree, stack),
+    }
+}
+
+impl Reader for ScriptReader {
+    ghost use Rattle.gr_script.specs.Machine.{finished_of, step_of};
+    ghost use Rattle.gr_script.specs.Words.{is_large};
+
+    type Token = Token;
+
+    type Tree = Ast;
+
+    ghost steps = { step_of };
+
+    ghost ends = { finished_of };
+
+    ghost has_no_value = { is_large };
+
+    fn step(&mut self, lexeme: Lexeme<Token>) -> Result<(), Stop>
+        ensures { Answers result self.new (step_of self.old (placed lexeme)) }
+    {
+        self.next = advance(
+            self.alloc,
+            self.next,
+            &mut self.tree,
+            &mut self.stack,
+            lexeme,
+        )?;
+        Ok(())
+    }
+
+    fn finish(self) -> Result<Ast, Stop> {
+        let ScriptReader {
+            alloc,
+            next,
+            tree,
+            stack,
+        } = self;
+        match next {
+            Next::Have => finish(alloc, tree, stack),
+            _ => Err(Stop::Wrong),
+        }
+    }
+
+    fn lacks_value(token: &Token) -> bool {
+        is_large(token)
+    }
+}
+
+/// Takes the next token. What comes then.
+fn advance(
+    alloc: Global,
+    next: Next,
+    tree: &mut Ast,
+    stack: &mut Stack,
+    lexeme: Lexeme<Token>,
+) -> Result<Next, Stop>
+    ensures { Comes result tree.new (reverse stack.new.frames.items) stack.new.left (step (phase_of next tree.old) (reverse stack.old.frames.items) stack.old.left (placed lexeme)) }
+{
+    match next {
+        Next::Want => {
+            let at = lexeme.at;
+            begin(alloc, start_of(lexeme), at, tree, stack)
+        }
+        Next::Opening if opens(&lexeme.token) => Ok(Next::Want),
+        Next::Opening => Err(Stop::Wrong),
+        Next::Have => follow(alloc, after_by(&lexeme.token), tree, stack),
     }
 }
 
 /// What an operand begins with, at this place.
-fn begun(alloc: Global, start: Start, at: u64, stack: &mut Stack) -> Result<Phase, Stop>
-    ensures { Answers result (reverse stack.new.frames.items) stack.new.left (begun start at (reverse stack.old.frames.items) stack.old.left) }
+fn begin(
+    alloc: Global,
+    start: Start,
+    at: u64,
+    tree: &mut Ast,
+    stack: &mut Stack,
+) -> Result<Next, Stop>
+    ensures { Comes result tree.new (reverse stack.new.frames.items) stack.new.left (begun start at (reverse stack.old.frames.items) stack.old.left) }
 {
     match start {
-        Start::Leaf(tree) => Ok(Phase::Have(tree)),
+        Start::Leaf(leaf) => {
+            *tree = leaf;
+            Ok(Next::Have)
+        }
         Start::Signed(sign) => {
             stack.open(Frame::Signing { sign, at })?;
-            Ok(Phase::Want)
+            Ok(Next::Want)
         }
         Start::Grouped => {
             stack.open(Frame::Grouping)?;
-            Ok(Phase::Want)
+            Ok(Next::Want)
         }
         Start::Called(call) => {
             let args = Items::new(alloc);
             stack.open(Frame::Calling { call, at, args })?;
-            Ok(Phase::Opening)
+            Ok(Next::Opening)
         }
         Start::Nothing => Err(Stop::Wrong),
     }
 }
 
 /// What follows an operand.
-fn followed(alloc: Global, after: After, tree: Ast, stack: &mut Stack) -> Result<Phase, Stop>
-    ensures { Answers result (reverse stack.new.frames.items) stack.new.left (placed after (reduced (pull after) tree (reverse stack.old.frames.items) stack.old.left)) }
+fn follow(alloc: Global, after: After, tree: &mut Ast, stack: &mut Stack) -> Result<Next, Stop>
+    ensures { Comes result tree.new (reverse stack.new.frames.items) stack.new.left (follows after (reduced (pull after) tree.old (reverse stack.old.frames.items) stack.old.left)) }
 {
-    let tree = reduce(alloc, after.pull(), tree, stack)?;
+    reduce(alloc, after.pull(), tree, stack)?;
     match after {
         After::Closes => close(tree, stack),
         After::Separates => separate(tree, stack),
         After::Joins(line, join) => join_row(alloc, line, join, tree, stack),
-        After::Tests(test) => begin_test(test, tree, stack),
+        After::Tests(test) => begin_test(alloc, test, tree, stack),
         After::Combines(line, arith) => combine_row(alloc, line, arith, tree, stack),
         After::Nothing => Err(Stop::Wrong),
     }
 }
 
 /// Closes the parts that bind the operand more tightly than what follows it.
-fn reduce(alloc: Global, pulled: u64, tree: Ast, stack: &mut Stack) -> Result<Ast, Stop>
-    ensures exact { IfOk result (λ made. reduced pulled tree (reverse stack.old.frames.items) stack.old.left ≡ record { tree = made; frames = reverse stack.new.frames.items; left = stack.new.left }) }
-    ensures memory { OnErr result (result ≡ Err Stop.NoMemory) }
+fn reduce(alloc: Global, pulled: u64, tree: &mut Ast, stack: &mut Stack) -> Result<(), NoMemory>
+    ensures { OnOk result (reduced pulled tree.old (reverse stack.old.frames.items) stack.old.left ≡ record { tree = tree.new; frames = reverse stack.new.frames.items; left = stack.new.left }) }
 {
-    let mut tree = tree;
     'parts: while let Some(frame) = stack.pop_over(pulled) {
-        tree = closed(alloc, frame, tree)?;
+        close_part(alloc, frame, tree)?;
     }
-    Ok(tree)
+    Ok(())
 }
 
 /// A join behind this operand.
@@ -92,43 +197,24 @@ fn join_row(
     alloc: Global,
     line: ConditionLine,
     join: Join,
-    tree: Ast,
+    tree: &mut Ast,
     stack: &mut Stack,
-) -> Result<Phase, Stop>
-    ensures { Answers result (reverse stack.new.frames.items) stack.new.left (join_on line join tree (reverse stack.old.frames.items) stack.old.left) }
+) -> Result<Next, Stop>
+    ensures { Comes result tree.new (reverse stack.new.frames.items) stack.new.left (join_on line join tree.old (reverse stack.old.frames.items) stack.old.left) }
 {
-    if !is_row(stack, line) {
-        stack.begin(Frame::Joining {
-            line,
-            first: tree,
-            links: Items::new(alloc),
-            join,
-        })?;
-        return Ok(Phase::Want);
+    if is_row(stack, line) {
+        stack.link(join, take_tree(tree))?;
+        return Ok(Next::Want);
     }
-    match stack.pop() {
-        Some(
-            Frame::Joining {
-                first,
-                mut links,
-                join: before,
-                ..
-            },
-        ) => {
-            links.push(Joined {
-                join: before,
-                of: tree,
-            })?;
-            stack.begin(Frame::Joining {
-                line,
-                first,
-                links,
-                join,
-            })?;
-            Ok(Phase::Want)
-        }
-        _ => unreachable!(),
-    }
+    let first = Boxed::new(alloc, take_tree(tree))?;
+    let links = Items::new(alloc);
+    stack.begin(Frame::Joining {
+        line,
+        first,
+        links,
+        join,
+    })?;
+    Ok(Next::Want)
 }
 
 /// Whether the last begun part is a row of conditions of this line.
@@ -142,14 +228,15 @@ fn is_row(stack: &Stack, line: ConditionLine) -> bool
 }
 
 /// A comparison or a search behind this operand.
-fn begin_test(test: FieldOp, tree: Ast, stack: &mut Stack) -> Result<Phase, Stop>
-    ensures { Answers result (reverse stack.new.frames.items) stack.new.left (test_on test tree (reverse stack.old.frames.items) stack.old.left) }
+fn begin_test(alloc: Global, test: FieldOp, tree: &mut Ast, stack: &mut Stack) -> Result<Next, Stop>
+    ensures { Comes result tree.new (reverse stack.new.frames.items) stack.new.left (test_on test tree.old (reverse stack.old.frames.items) stack.old.left) }
 {
     if is_test(stack) {
         return Err(Stop::Wrong);
     }
-    stack.begin(Frame::Testing { test, left: tree })?;
-    Ok(Phase::Want)
+    let left = Boxed::new(alloc, take_tree(tree))?;
+    stack.begin(Frame::Testing { test, left })?;
+    Ok(Next::Want)
 }
 
 /// Whether the last begun part is a comparison or a search.
@@ -164,43 +251,24 @@ fn combine_row(
     alloc: Global,
     line: NumberLine,
     arith: Arith,
-    tree: Ast,
+    tree: &mut Ast,
     stack: &mut Stack,
-) -> Result<Phase, Stop>
-    ensures { Answers result (reverse stack.new.frames.items) stack.new.left (combine_on line arith tree (reverse stack.old.frames.items) stack.old.left) }
+) -> Result<Next, Stop>
+    ensures { Comes result tree.new (reverse stack.new.frames.items) stack.new.left (combine_on line arith tree.old (reverse stack.old.frames.items) stack.old.left) }
 {
-    if !is_number_row(stack, line) {
-        stack.begin(Frame::Combining {
-            line,
-            first: tree,
-            terms: Items::new(alloc),
-            arith,
-        })?;
-        return Ok(Phase::Want);
+    if is_number_row(stack, line) {
+        stack.combine(arith, take_tree(tree))?;
+        return Ok(Next::Want);
     }
-    match stack.pop() {
-        Some(
-            Frame::Combining {
-                first,
-                mut terms,
-                arith: before,
-                ..
-            },
-        ) => {
-            terms.push(Combined {
-                arith: before,
-                of: tree,
-            })?;
-            stack.begin(Frame::Combining {
-                line,
-                first,
-                terms,
-                arith,
-            })?;
-            Ok(Phase::Want)
-        }
-        _ => unreachable!(),
-    }
+    let first = Boxed::new(alloc, take_tree(tree))?;
+    let terms = Items::new(alloc);
+    stack.begin(Frame::Combining {
+        line,
+        first,
+        terms,
+        arith,
+    })?;
+    Ok(Next::Want)
 }
 
 /// Whether the last begun part is a row of numbers of this line.
@@ -214,38 +282,20 @@ fn is_number_row(stack: &Stack, line: NumberLine) -> bool
 }
 
 /// A closing bracket behind this operand.
-fn close(tree: Ast, stack: &mut Stack) -> Result<Phase, Stop>
-    ensures { Answers result (reverse stack.new.frames.items) stack.new.left (close_on tree (reverse stack.old.frames.items) stack.old.left) }
+fn close(tree: &mut Ast, stack: &mut Stack) -> Result<Next, Stop>
+    ensures { Comes result tree.new (reverse stack.new.frames.items) stack.new.left (close_on tree.old (reverse stack.old.frames.items) stack.old.left) }
 {
     match stack.pop() {
-        Some(Frame::Grouping) => Ok(Phase::Have(tree)),
+        Some(Frame::Grouping) => Ok(Next::Have),
         Some(Frame::Calling { call, at, args }) => {
-            if takes(call, args.len()) {
-                let args = with_argument(args, tree)?;
-                Ok(Phase::Have(called(call, at, args)))
-            } else {
-                refuse(None, tree)
+            if !takes(call, args.len()) {
+                return Err(Stop::Wrong);
             }
+            let args = with_argument(args, take_tree(tree))?;
+            *tree = called(call, at, args);
+            Ok(Next::Have)
         }
-        frame => refuse(frame, tree),
-    }
-}
-
-/// A comma behind this operand.
-fn separate(tree: Ast, stack: &mut Stack) -> Result<Phase, Stop>
-    ensures { Answers result (reverse stack.new.frames.items) stack.new.left (separate_on tree (reverse stack.old.frames.items) stack.old.left) }
-{
-    match stack.pop() {
-        Some(Frame::Calling { call, at, args }) => {
-            if takes_more(call, args.len()) {
-                let args = with_argument(args, tree)?;
-                stack.open(Frame::Calling { call, at, args })?;
-                Ok(Phase::Want)
-            } else {
-                refuse(None, tree)
-            }
-        }
-        frame => refuse(frame, tree),
+        _frame => Err(Stop::Wrong),
     }
 }
 
@@ -258,11 +308,25 @@ fn with_argument(args: Items<Ast>, tree: Ast) -> Result<Items<Ast>, NoMemory>
     Ok(args)
 }
 
-/// No script goes on with this token; what was read is let go.
-fn refuse(_frame: Option<Frame>, _tree: Ast) -> Result<Phase, Stop>
-    ensures { result ≡ Err Stop.Wrong }
+/// A comma behind this operand.
+fn separate(tree: &mut Ast, stack: &mut Stack) -> Result<Next, Stop>
+    ensures { Comes result tree.new (reverse stack.new.frames.items) stack.new.left (separate_on tree.old (reverse stack.old.frames.items) stack.old.left) }
 {
-    Err(Stop::Wrong)
+    if !may_separate(stack) {
+        return Err(Stop::Wrong);
+    }
+    stack.argue(take_tree(tree))?;
+    Ok(Next::Want)
+}
+
+/// Whether the last begun part is a call that takes more than one argument more.
+fn may_separate(stack: &Stack) -> bool
+    ensures { result ≡ may_separate (reverse stack.now.frames.items) }
+{
+    match stack.last() {
+        Some(Frame::Calling { call, args, .. }) => takes_more(*call, args.len()),
+        _ => false,
+    }
 }
 
 /// Whether a call takes one argument more than so many.
@@ -285,23 +349,13 @@ fn takes_more(call: Call, before: usize) -> bool
     }
 }
 
-/// The tree of a script that ends here; it is wrong where a part is open still.
-pub(crate) fn finish(alloc: Global, phase: Phase, stack: &mut Stack) -> Result<Ast, Stop>
-    ensures { Finishes result (finished phase (reverse stack.old.frames.items) stack.old.left) }
+/// The tree of a script that ends behind this operand; it is wrong where a part is open still.
+fn finish(alloc: Global, tree: Ast, stack: Stack) -> Result<Ast, Stop>
+    ensures { Finishes result (whole_of (reduced 0 tree (reverse stack.frames.items) stack.left)) }
 {
-    match phase {
-        Phase::Have(tree) => {
-            let tree = reduce(alloc, 0, tree, stack)?;
-            whole(tree, stack)
-        }
-        _ => Err(Stop::Wrong),
-    }
-}
-
-/// The tree, where no part is open.
-fn whole(tree: Ast, stack: &Stack) -> Result<Ast, Stop>
-    ensures { Finishes result (whole tree (reverse stack.now.frames.items)) }
-{
+    let mut tree = tree;
+    let mut stack = stack;
+    reduce(alloc, 0, &mut tree, &mut stack)?;
     if stack.frames.is_empty() {
         Ok(tree)
     } else {

@@ -2,10 +2,12 @@
 ghost use Rattle.std.specs.Prelude.{◌≡◌, ◌+◌, ◌<◌, ◌≤◌, ◌⊎◌, suc, [], ◌∷◌, reverse, MatchOption, IfNone, IfSome, OnOk, OnErr, Err};
 ghost use Rattle.std.specs.Option.{option_copied};
 ghost use Rattle.std.specs.List.{sum_by};
-ghost use Rattle.gr_script.specs.Machine.{level, hold, released, top_hold, top};
+ghost use Rattle.gr_script.specs.Machine.{TopIs, IsCall, IsNumberRow, IsRow, argued, combined, hold, level, linked, on_top, released, top, top_hold};
 
 use crate::frame::Frame;
-use crate::stop::Stop;
+use gr_base::NoMemory;
+use gr_expr::{Arith, Ast, Join};
+use gr_text::Stop;
 use std::alloc::Global;
 
 /// The begun parts of a script. At most 64 levels are open.
@@ -29,11 +31,10 @@ impl Stack {
     }
 
     /// Begins a part that opens no level.
-    pub(crate) fn begin(&mut self, frame: Frame) -> Result<(), Stop>
+    pub(crate) fn begin(&mut self, frame: Frame) -> Result<(), NoMemory>
         requires { level frame ≡ 0 }
         ensures frames { OnOk result (reverse self.new.frames.items ≡ frame ∷ reverse self.old.frames.items) }
         ensures left { OnOk result (self.new.left ≡ self.old.left) }
-        ensures memory { OnErr result (result ≡ Err Stop.NoMemory) }
     {
         self.frames.push(frame)?;
         Ok(())
@@ -93,5 +94,41 @@ impl Stack {
         ensures { option_copied result ≡ top (reverse self.now.frames.items) }
     {
         self.frames.as_slice().last()
+    }
+
+    /// One more condition of the row that was begun last, with the sign behind it.
+    pub(crate) fn link(&mut self, join: Join, tree: Ast) -> Result<(), NoMemory>
+        requires { TopIs IsRow (reverse self.old.frames.items) }
+        ensures frames { OnOk result (reverse self.new.frames.items ≡ on_top (linked join tree) (reverse self.old.frames.items)) }
+        ensures left { self.new.left ≡ self.old.left }
+    {
+        match self.frames.last_mut() {
+            Some(frame) => frame.link(join, tree),
+            None => unreachable!(),
+        }
+    }
+
+    /// One more number of the row that was begun last, with the sign behind it.
+    pub(crate) fn combine(&mut self, arith: Arith, tree: Ast) -> Result<(), NoMemory>
+        requires { TopIs IsNumberRow (reverse self.old.frames.items) }
+        ensures frames { OnOk result (reverse self.new.frames.items ≡ on_top (combined arith tree) (reverse self.old.frames.items)) }
+        ensures left { self.new.left ≡ self.old.left }
+    {
+        match self.frames.last_mut() {
+            Some(frame) => frame.combine(arith, tree),
+            None => unreachable!(),
+        }
+    }
+
+    /// One more argument of the call that was begun last.
+    pub(crate) fn argue(&mut self, tree: Ast) -> Result<(), NoMemory>
+        requires { TopIs IsCall (reverse self.old.frames.items) }
+        ensures frames { OnOk result (reverse self.new.frames.items ≡ on_top (argued tree) (reverse self.old.frames.items)) }
+        ensures left { self.new.left ≡ self.old.left }
+    {
+        match self.frames.last_mut() {
+            Some(frame) => frame.argue(tree),
+            None => unreachable!(),
+        }
     }
 }

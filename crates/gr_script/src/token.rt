@@ -61,21 +61,3 @@ pub(crate) enum Token {
     /// Names joined by dots.
     Path(Bytes),
 }
-
-/// A token at its byte place.
-#[derive(Drop)]
-pub(crate) struct Lexeme {
-    pub(crate) at: u64,
-    pub(crate) token: Token,
-}
-
-/// What stands next in a script.
-#[derive(Drop)]
-pub(crate) enum Found {
-    /// A token.
-    Lexeme(Lexeme),
-    /// The place of a character that is no blank and begins no token.
-    Stranger(u64),
-    /// The end of the script.
-    End,
-}

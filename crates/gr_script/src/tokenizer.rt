@@ -3,8 +3,11 @@ ghost use Rattle.std.specs.Prelude.{◌≡◌, ◌∷◌, IfOk, IfSome, IsTrue, 
 ghost use Rattle.std.specs.Char.{is_ascii_digit};
 ghost use Rattle.gr_text.specs.Characters.{is_name_start};
 ghost use Rattle.gr_text.specs.Strings.{string_from};
-ghost use Rattle.gr_script.specs.Lexing.{IsHeld, held_at};
-ghost use Rattle.gr_script.specs.Token.{digits_token, long_symbol, longer, path_token, short_symbol, text_token, token_at};
+ghost use Rattle.gr_text.specs.Lexing.{IsHeld};
+ghost use Rattle.gr_script.specs.Token.{IsText, digits_token, long_symbol, longer, path_token, short_symbol, text_token};
+
+#[cfg(test)]
+mod tests;
 
 use crate::symbols::{long_symbol, short_symbol};
 use crate::token::Token;
@@ -15,33 +18,36 @@ use std::alloc::Global;
 /// A token and how many bytes it has, where there is one.
 type MaybeToken = Option<(Token, usize)>;
 
-/// The token that the bytes begin with.
-pub(crate) fn token_at(alloc: Global, bytes: &[u8]) -> Result<MaybeToken, NoMemory>
-    requires { IsUtf8 bytes.now }
-    ensures exact { IfOk result (λ found. found ≡ held_at (token_at bytes.now)) }
-    ensures held { IfOk result (λ found. IfSome found (IsHeld bytes.now)) }
-{
-    let Some((first, others)) = bytes.split_first() else {
-        return Ok(None);
-    };
-    if *first == b'"' {
-        return text_at(alloc, bytes, others);
+impl gr_text::Token for Token {
+    ghost use Rattle.gr_script.specs.Token.{IsText, token_at};
+
+    ghost starts = { token_at };
+
+    ghost IsText = { IsText };
+
+    fn token_at(alloc: Global, bytes: &[u8]) -> Result<MaybeToken, NoMemory> {
+        let Some((first, others)) = bytes.split_first() else {
+            return Ok(None);
+        };
+        if *first == b'"' {
+            return text_at(alloc, bytes, others);
+        }
+        if first.is_ascii_digit() {
+            return Ok(digits_at(bytes));
+        }
+        if is_name_start(*first) {
+            return path_at(alloc, bytes);
+        }
+        Ok(symbol_at(bytes, *first, others))
     }
-    if first.is_ascii_digit() {
-        return Ok(digits_at(bytes));
-    }
-    if is_name_start(*first) {
-        return path_at(alloc, bytes);
-    }
-    Ok(symbol_at(bytes, *first, others))
 }
 
 /// The string, whose opening quote is not among these bytes.
 fn text_at(alloc: Global, bytes: &[u8], others: &[u8]) -> Result<MaybeToken, NoMemory>
     requires text { IsUtf8 bytes.now }
     requires parts { bytes.now ≡ 34 ∷ others.now }
-    ensures exact { IfOk result (λ found. found ≡ held_at (text_token (string_from others.now))) }
-    ensures held { IfOk result (λ found. IfSome found (IsHeld bytes.now)) }
+    ensures exact { IfOk result (λ found. found ≡ text_token (string_from others.now)) }
+    ensures held { IfOk result (λ found. IfSome found (IsHeld IsText bytes.now)) }
 {
     match string_from(alloc, others)? {
         Some((text, len)) => Ok(Some((Token::Text(text), 1 + len))),
@@ -53,8 +59,8 @@ fn text_at(alloc: Global, bytes: &[u8], others: &[u8]) -> Result<MaybeToken, NoM
 fn digits_at(bytes: &[u8]) -> MaybeToken
     requires text { IsUtf8 bytes.now }
     requires digit { IsTrue (is_ascii_digit (slice_index bytes.now 0)) }
-    ensures exact { result ≡ held_at (digits_token bytes.now) }
-    ensures held { IfSome result (IsHeld bytes.now) }
+    ensures exact { result ≡ digits_token bytes.now }
+    ensures held { IfSome result (IsHeld IsText bytes.now) }
 {
     let len = digits_len(bytes);
     if begins_name(bytes.split_at(len).1) {
@@ -77,8 +83,8 @@ fn begins_name(bytes: &[u8]) -> bool
 fn path_at(alloc: Global, bytes: &[u8]) -> Result<MaybeToken, NoMemory>
     requires text { IsUtf8 bytes.now }
     requires name { IsTrue (is_name_start (slice_index bytes.now 0)) }
-    ensures exact { IfOk result (λ found. found ≡ held_at (path_token bytes.now)) }
-    ensures held { IfOk result (λ found. IfSome found (IsHeld bytes.now)) }
+    ensures exact { IfOk result (λ found. found ≡ path_token bytes.now) }
+    ensures held { IfOk result (λ found. IfSome found (IsHeld IsText bytes.now)) }
 {
     let len = path_len(bytes);
     let path = Bytes::from_slice(alloc, bytes.split_at(len).0)?;
@@ -89,8 +95,8 @@ fn path_at(alloc: Global, bytes: &[u8]) -> Result<MaybeToken, NoMemory>
 fn symbol_at(bytes: &[u8], first: u8, others: &[u8]) -> MaybeToken
     requires text { IsUtf8 bytes.now }
     requires parts { bytes.now ≡ first ∷ others.now }
-    ensures exact { result ≡ held_at (longer (long_symbol first (slice_index others.now 0)) (short_symbol first)) }
-    ensures held { IfSome result (IsHeld bytes.now) }
+    ensures exact { result ≡ longer (long_symbol first (slice_index others.now 0)) (short_symbol first) }
+    ensures held { IfSome result (IsHeld IsText bytes.now) }
 {
     let second = first_or_zero(others);
     if let Some(symbol) = long_symbol(first, second) {

@@ -1,5 +1,5 @@
 // The trees that the grammar makes of its parts.
-ghost use Rattle.std.specs.Prelude.{◌≡◌, ◌++◌, ◌∷◌, [], IfOk};
+ghost use Rattle.std.specs.Prelude.{◌≡◌, ◌++◌, ◌∷◌, [], OnOk};
 ghost use Rattle.gr_expr.specs.declared.ast.Ast.TheVariants as ast;
 ghost use Rattle.gr_script.specs.Machine.{closed};
 ghost use Rattle.gr_script.specs.Trees.{place_of, link, term, tested, signed, called};
@@ -10,6 +10,7 @@ use gr_base::NoMemory;
 use gr_expr::{Arith, Ast, Combined, FieldOp, Join, Joined};
 use sqlite_items::{Boxed, Items};
 use std::alloc::Global;
+use std::mem::replace;
 
 /// The place of a tree's first token, grouping brackets left aside.
 #[tactic(auto, unfolding(crate::specs::Trees::place_of))]
@@ -35,9 +36,16 @@ pub(crate) fn place_of(tree: &Ast) -> u64
     }
 }
 
-/// The tree of a part whose last operand is read.
-pub(crate) fn closed(alloc: Global, frame: Frame, tree: Ast) -> Result<Ast, NoMemory>
-    ensures { IfOk result (λ made. made ≡ closed frame tree) }
+/// The tree, with another left in its place.
+pub(crate) fn take_tree(tree: &mut Ast) -> Ast
+    ensures { result ≡ tree.old }
+{
+    replace(tree, Ast::All { at: 0 })
+}
+
+/// Makes the operand that a part waits for the tree of that part.
+pub(crate) fn close_part(alloc: Global, frame: Frame, tree: &mut Ast) -> Result<(), NoMemory>
+    ensures { OnOk result (tree.new ≡ closed frame tree.old) }
 {
     match frame {
         Frame::Joining {
@@ -45,86 +53,87 @@ pub(crate) fn closed(alloc: Global, frame: Frame, tree: Ast) -> Result<Ast, NoMe
             links,
             join,
             ..
-        } => chain(alloc, first, links, join, tree),
-        Frame::Testing { test, left } => tested(alloc, test, left, tree),
+        } => chain(first, links, join, tree),
+        Frame::Testing { test, left } => make_test(alloc, test, left, tree),
         Frame::Combining {
             first,
             terms,
             arith,
             ..
-        } => calculation(alloc, first, terms, arith, tree),
-        Frame::Signing { sign, at } => signed(alloc, sign, at, tree),
-        Frame::Grouping => Ok(tree),
-        Frame::Calling { .. } => Ok(tree),
+        } => calculate(first, terms, arith, tree),
+        Frame::Signing { sign, at } => make_signed(alloc, sign, at, tree),
+        Frame::Grouping => Ok(()),
+        Frame::Calling { .. } => Ok(()),
     }
 }
 
-/// Conditions in a row, with one more behind them.
+/// Puts the tree behind conditions in a row.
 fn chain(
-    alloc: Global,
-    first: Ast,
+    first: Boxed<Ast>,
     links: Items<Joined>,
     join: Join,
-    tree: Ast,
-) -> Result<Ast, NoMemory>
-    ensures { IfOk result (λ made. made ≡ ast.Chain (place_of first) first (links ++ link join tree ∷ [])) }
+    tree: &mut Ast,
+) -> Result<(), NoMemory>
+    ensures { OnOk result (tree.new ≡ ast.Chain (place_of first) first (links ++ link join tree.old ∷ [])) }
 {
+    let of = take_tree(tree);
     let mut rest = links;
-    rest.push(Joined { join, of: tree })?;
-    let at = place_of(&first);
-    let first = Boxed::new(alloc, first)?;
-    Ok(Ast::Chain { at, first, rest })
+    rest.push(Joined { join, of })?;
+    let at = place_of(first.get());
+    *tree = Ast::Chain { at, first, rest };
+    Ok(())
 }
 
-/// Numbers in a row, with one more behind them.
-fn calculation(
-    alloc: Global,
-    first: Ast,
+/// Puts the tree behind numbers in a row.
+fn calculate(
+    first: Boxed<Ast>,
     terms: Items<Combined>,
     arith: Arith,
-    tree: Ast,
-) -> Result<Ast, NoMemory>
-    ensures { IfOk result (λ made. made ≡ ast.Calc (place_of first) first (terms ++ term arith tree ∷ [])) }
+    tree: &mut Ast,
+) -> Result<(), NoMemory>
+    ensures { OnOk result (tree.new ≡ ast.Calc (place_of first) first (terms ++ term arith tree.old ∷ [])) }
 {
+    let of = take_tree(tree);
     let mut rest = terms;
-    rest.push(Combined { arith, of: tree })?;
-    let at = place_of(&first);
-    let first = Boxed::new(alloc, first)?;
-    Ok(Ast::Calc { at, first, rest })
+    rest.push(Combined { arith, of })?;
+    let at = place_of(first.get());
+    *tree = Ast::Calc { at, first, rest };
+    Ok(())
 }
 
-/// A comparison or a search.
-fn tested(alloc: Global, test: FieldOp, left: Ast, right: Ast) -> Result<Ast, NoMemory>
-    ensures { IfOk result (λ made. made ≡ tested test left right) }
+/// Makes the tree the right side of a comparison or a search.
+fn make_test(alloc: Global, test: FieldOp, left: Boxed<Ast>, tree: &mut Ast) -> Result<(), NoMemory>
+    ensures { OnOk result (tree.new ≡ tested test left tree.old) }
 {
-    let at = place_of(&left);
-    let left = Boxed::new(alloc, left)?;
-    let right = Boxed::new(alloc, right)?;
-    match test {
-        FieldOp::Compare(cmp) => Ok(Ast::Compare {
+    let at = place_of(left.get());
+    let right = Boxed::new(alloc, take_tree(tree))?;
+    *tree = match test {
+        FieldOp::Compare(cmp) => Ast::Compare {
             at,
             cmp,
             left,
             right,
-        }),
-        FieldOp::Find(seek) => Ok(Ast::Find {
+        },
+        FieldOp::Find(seek) => Ast::Find {
             at,
             seek,
             left,
             right,
-        }),
-    }
+        },
+    };
+    Ok(())
 }
 
-/// An operand behind a sign that stands at this place.
-fn signed(alloc: Global, sign: Sign, at: u64, of: Ast) -> Result<Ast, NoMemory>
-    ensures { IfOk result (λ made. made ≡ signed sign at of) }
+/// Puts the tree behind a sign that stands at this place.
+fn make_signed(alloc: Global, sign: Sign, at: u64, tree: &mut Ast) -> Result<(), NoMemory>
+    ensures { OnOk result (tree.new ≡ signed sign at tree.old) }
 {
-    let of = Boxed::new(alloc, of)?;
-    match sign {
-        Sign::Not => Ok(Ast::Not { at, of }),
-        Sign::Minus => Ok(Ast::Minus { at, of }),
-    }
+    let of = Boxed::new(alloc, take_tree(tree))?;
+    *tree = match sign {
+        Sign::Not => Ast::Not { at, of },
+        Sign::Minus => Ast::Minus { at, of },
+    };
+    Ok(())
 }
 
 /// A call whose name stands at this place.

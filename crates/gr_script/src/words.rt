@@ -1,16 +1,17 @@
 // What an operand that begins with a token is, and what a token is behind one.
 ghost use Rattle.std.specs.Prelude.{◌≡◌};
-ghost use Rattle.gr_script.specs.Shown.{shown, shown_token};
-ghost use Rattle.gr_script.specs.Words.{word_at, start_of, start_with, after_by, after_mark, opens};
+ghost use Rattle.gr_text.specs.Lexing.{placed};
+ghost use Rattle.gr_script.specs.Words.{after_by, after_mark, is_large, opens, start_of, start_with, word_at};
 
 use crate::grammar::{After, Call, ConditionLine, NumberLine, Sign, Start};
-use crate::token::{Lexeme, Symbol, Token};
+use crate::token::{Symbol, Token};
 use gr_base::{Bytes, Cmp};
 use gr_expr::{Arith, Ast, FieldOp, Join, Seek};
+use gr_text::Lexeme;
 
 /// What an operand that begins with this token is.
-pub(crate) fn start_of(lexeme: Lexeme) -> Start
-    ensures { result ≡ start_of (shown lexeme) }
+pub(crate) fn start_of(lexeme: Lexeme<Token>) -> Start
+    ensures { result ≡ start_of (placed lexeme) }
 {
     let Lexeme { at, token } = lexeme;
     match token {
@@ -56,7 +57,7 @@ fn word_at(at: u64, text: Bytes) -> Start
 
 /// What a token is behind an operand.
 pub(crate) fn after_by(token: &Token) -> After
-    ensures { result ≡ after_by (shown_token token.now) }
+    ensures { result ≡ after_by token.now }
 {
     match token {
         Token::Symbol(symbol) => after_mark(*symbol),
@@ -95,7 +96,14 @@ fn after_mark(symbol: Symbol) -> After
 
 /// Whether a token is an opening bracket.
 pub(crate) fn opens(token: &Token) -> bool
-    ensures { result ≡ opens (shown_token token.now) }
+    ensures { result ≡ opens token.now }
 {
     matches!(token, Token::Symbol(Symbol::Open))
+}
+
+/// Whether a token is a number above the greatest of 64 bits.
+pub(crate) fn is_large(token: &Token) -> bool
+    ensures { result ≡ is_large token.now }
+{
+    matches!(token, Token::Digits(None))
 }

@@ -1,20 +1,12 @@
 use Rattle.gr_script.specs.Token.{tokens_of}
-use Rattle.gr_script.specs.Turns.{Ended}
-use Rattle.gr_script.proofs.Turning.{told_refused, told_script, told_made, tokens_length}
+use Rattle.gr_script.proofs.Told.{script_made, script_refused, script_told}
 use Rattle.gr_script.proofs.script.parse.Goals as goal
-use Rattle.gr_script.proofs.script.parse.Goals.{After-ended}
 
-whole_told : (c : After-ended) → Ended (tokens_of c.args.text.now) c.ended.result
-whole_told c =
-    let turned = rw c.in-Ok-Ends.field-0-is at c.in-Ok-Ends.ensures.turned in
-    let t = turned (tokens_of c.args.text.now) c.tokens.invariant in
-    c.ended.ensures (tokens_of c.args.text.now) c.turn.new.lexer t.0 t.1 t.2 (tokens_length c.args.text.now)
+pub returns-clause-script : goal.returns-clause-script
+returns-clause-script c = script_told (tokens_of c.args.text.now) c.read.result (rw c.new.ensures at c.read.ensures)
 
-pub returns-in-Ok-Ends-clause-script : goal.returns-in-Ok-Ends-clause-script
-returns-in-Ok-Ends-clause-script c = told_script (tokens_of c.args.text.now) c.ended.result (whole_told (goal.at.returns-in-Ok-Ends-clause-script c).After-ended)
+pub returns-clause-made : goal.returns-clause-made
+returns-clause-made c = script_made (tokens_of c.args.text.now) c.read.result (rw c.new.ensures at c.read.ensures)
 
-pub returns-in-Ok-Ends-clause-made : goal.returns-in-Ok-Ends-clause-made
-returns-in-Ok-Ends-clause-made c = told_made (tokens_of c.args.text.now) c.ended.result (whole_told (goal.at.returns-in-Ok-Ends-clause-made c).After-ended)
-
-pub returns-in-Ok-Ends-clause-refused : goal.returns-in-Ok-Ends-clause-refused
-returns-in-Ok-Ends-clause-refused c = told_refused (tokens_of c.args.text.now) c.ended.result (whole_told (goal.at.returns-in-Ok-Ends-clause-refused c).After-ended)
+pub returns-clause-refused : goal.returns-clause-refused
+returns-clause-refused c = script_refused (tokens_of c.args.text.now) c.read.result (rw c.new.ensures at c.read.ensures)

@@ -1,7 +1,6 @@
 // The tokens of scripts, by hand.
 use super::*;
-use crate::token::Token;
-use gr_base::Bytes;
+use gr_text::{Found, Lexer};
 use std::fmt::Write;
 use std::test::Fail;
 
@@ -63,7 +62,7 @@ fn push_token(shown: &mut String, token: &Token) -> Result<(), NoMemory> {
 }
 
 /// Shows what stands next. Whether there is more.
-fn push_found(shown: &mut String, found: &Found) -> Result<bool, NoMemory> {
+fn push_found(shown: &mut String, found: &Found<Token>) -> Result<bool, NoMemory> {
     match found {
         Found::Lexeme(lexeme) => {
             let at = lexeme.at;
@@ -81,7 +80,7 @@ fn push_found(shown: &mut String, found: &Found) -> Result<bool, NoMemory> {
 }
 
 fn shown(alloc: Global, script: &str) -> Result<String, NoMemory> {
-    let mut lexer = Lexer::new(script);
+    let mut lexer = Lexer::<Token>::new(script);
     let mut shown = String::new(alloc);
     for _ in script.bytes() {
         if !push_found(&mut shown, &lexer.next(alloc)?)? {
@@ -101,7 +100,7 @@ fn scripts_are_cut_into_tokens(rt: HostRuntime) -> Result<(), Fail> {
 
 #[test]
 fn the_end_comes_again(rt: HostRuntime) -> Result<(), Fail> {
-    let mut lexer = Lexer::new("a ");
+    let mut lexer = Lexer::<Token>::new("a ");
     assert!(rt; matches!(lexer.next(rt.alloc())?, Found::Lexeme(_)));
     assert!(rt; matches!(lexer.next(rt.alloc())?, Found::End));
     assert!(rt; matches!(lexer.next(rt.alloc())?, Found::End));
