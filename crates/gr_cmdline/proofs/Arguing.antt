@@ -2,18 +2,21 @@
 use Rattle.std.proofs.Common.{◌≡◌, ◌<◌, ℕ, Bool, true, false, cond, List, [], ◌∷◌, ◌++◌, drop, length, Option, Some, None, option_and_then, option_map, Result, Ok, Err, IfOk, refl, sym, ap, ◌∙◌, append_assoc, arith}
 use Rattle.gr_cmdline.specs.Asked.{arguments, asked_by_words, asked_with, names_argument}
 use Rattle.gr_cmdline.specs.Reading.{ReadsArgument, arguments_behind, arguments_in}
-use Rattle.gr_cmdline.specs.Words.{words}
+use Rattle.gr_cmdline.specs.Words.{Word, words}
 use Rattle.gr_cmdline.specs.declared.argument.Argument.{Argument}
 use Rattle.gr_cmdline.specs.declared.argument.Argument.TheVariants.{Named, Placed}
 use Rattle.gr_cmdline.specs.declared.refused.Refused.{Refused}
-use Rattle.gr_cmdline.specs.declared.words.Word.{Word}
 
 -- a word that names no argument stands by its place
-pub arguments-placed : (word : Word) (found : Option (List Word)) → names_argument word ≡ false → option_and_then (λ others. arguments (word ∷ others)) found ≡ option_map (λ others. Placed word.text ∷ others) (option_and_then arguments found)
-arguments-placed word None placed = refl
-arguments-placed word (Some []) placed = ap (λ (b : Bool). cond b None (Some (Placed word.text ∷ []))) placed
-arguments-placed word (Some (next ∷ others)) placed =
+placed-value : (word : Word) (found : Option (List Word)) → names_argument word ≡ false → option_and_then (λ others. arguments (word ∷ others)) found ≡ option_map (λ others. Placed word.text ∷ others) (option_and_then arguments found)
+placed-value word None placed = refl
+placed-value word (Some []) placed = ap (λ (b : Bool). cond b None (Some (Placed word.text ∷ []))) placed
+placed-value word (Some (next ∷ others)) placed =
     ap (λ (b : Bool). cond b (option_map (λ more. Named (drop 2 word.text) next.text ∷ more) (arguments others)) (option_map (λ more. Placed word.text ∷ more) (arguments (next ∷ others)))) placed
+
+pub arguments-placed : (word : Word) (text line : List ℕ) → names_argument word ≡ false → text ≡ word.text → arguments_behind word line ≡ option_map (λ others. Placed text ∷ others) (arguments_in line)
+arguments-placed word text line placed same =
+    placed-value word (words line) placed ∙ ap (λ text. option_map (λ others. Placed text ∷ others) (arguments_in line)) (sym same)
 
 -- a word that names an argument takes the next as its value
 named-value : (word value : Word) (found : Option (List Word)) → names_argument word ≡ true → option_and_then (λ others. arguments (word ∷ others)) (option_map (λ others. value ∷ others) found) ≡ option_map (λ others. Named (drop 2 word.text) value.text ∷ others) (option_and_then arguments found)
@@ -21,10 +24,11 @@ named-value word value None named = refl
 named-value word value (Some others) named =
     ap (λ (b : Bool). cond b (option_map (λ more. Named (drop 2 word.text) value.text ∷ more) (arguments others)) (option_map (λ more. Placed word.text ∷ more) (arguments (value ∷ others)))) named
 
-pub arguments-named : (word value : Word) (name old new : List ℕ) → names_argument word ≡ true → name ≡ drop 2 word.text → words old ≡ option_map (λ others. value ∷ others) (words new) → arguments_behind word old ≡ option_map (λ others. Named name value.text ∷ others) (arguments_in new)
-arguments-named word value name old new named same read =
+pub arguments-named : (word value : Word) (name text old new : List ℕ) → names_argument word ≡ true → name ≡ drop 2 word.text → text ≡ value.text → words old ≡ option_map (λ others. value ∷ others) (words new) → arguments_behind word old ≡ option_map (λ others. Named name text ∷ others) (arguments_in new)
+arguments-named word value name text old new named same_name same_text read =
     ap (option_and_then (λ others. arguments (word ∷ others))) read ∙ named-value word value (words new) named
-    ∙ ap (λ text. option_map (λ others. Named text value.text ∷ others) (arguments_in new)) (sym same)
+    ∙ ap (λ text. option_map (λ others. Named text value.text ∷ others) (arguments_in new)) (sym same_name)
+    ∙ ap (λ text. option_map (λ others. Named name text ∷ others) (arguments_in new)) (sym same_text)
 
 -- the test that names an argument, by the name that was found
 pub named-some : (b : Bool) (found name : List ℕ) → Some name ≡ cond b (Some found) None → (b ≡ true) × (name ≡ found)

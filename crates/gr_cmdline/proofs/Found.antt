@@ -1,5 +1,5 @@
 -- What a search for a line feed says of the bytes before it, where the first ones were searched before.
-use Rattle.std.proofs.Common.{◌≡◌, ℕ, ◌+◌, ◌-◌, ◌<◌, ◌≤◌, ◌⊎◌, true, false, List, ◌∷◌, Option, Some, None, All, length, take, drop, get_or, sym, ap, subst, ◌∙◌, add-one, drop-cons, ⊎_elim, arith}
+use Rattle.std.proofs.Common.{◌≡◌, ℕ, Bool, ◌+◌, ◌-◌, ◌<◌, ◌≤◌, ◌⊎◌, true, false, List, ◌∷◌, Option, Some, None, All, length, take, drop, get_or, sym, ap, subst, ◌∙◌, add-one, drop-cons, ⊎_elim, arith}
 use Rattle.std.proofs.lemmas.List.{drop-drop, drop-take, get_or-drop, get_or-take, length-drop, length-take-le, take_rest}
 use Rattle.std.proofs.lemmas.Bool.{cases_lt, cases_Bool, eqb-true, false≢true}
 use Rattle.std.proofs.lemmas.List.Elements.{All-drop, All-from_get_or, All-get_or, All-nil, All-take}
@@ -8,9 +8,13 @@ use Rattle.std.proofs.lemmas.Bool.Decides.{nat_tests}
 use Rattle.memchr.specs.Find.{IsFirstByte, is_byte}
 use Rattle.gr_cmdline.specs.Commands.{is_line_end}
 
+-- no byte passes a test
+abbrev pub IsClear : (ℕ → Bool) → List ℕ → Type 0
+IsClear test bytes = All (λ c. test c ≡ false) bytes
+
 -- no byte is a line feed
 abbrev pub IsOpen : List ℕ → Type 0
-IsOpen bytes = All (λ c. is_line_end c ≡ false) bytes
+IsOpen bytes = IsClear is_line_end bytes
 
 absent : (bytes : List ℕ) (seen k : ℕ) → seen ≤ length bytes → k < seen → IsOpen (take seen bytes) → is_byte 10 (get_or bytes k 0) ≡ true → ⊥
 absent bytes seen k within below clear found =
@@ -44,20 +48,20 @@ found_some bytes seen further n within clear same (range, at) = (
   rw (same, ← get_or-drop seen bytes further 0) at,
 )
 
-not_found : (c : ℕ) → (is_byte 10 c ≡ true → ⊥) → is_line_end c ≡ false
-not_found c unless = ⊎_elim (λ yes. absurd (unless yes)) (λ other. other) (cases_Bool (is_line_end c))
+not_found : (test : ℕ → Bool) (c : ℕ) → (test c ≡ true → ⊥) → test c ≡ false
+not_found test c unless = ⊎_elim (λ yes. absurd (unless yes)) (λ other. other) (cases_Bool (test c))
 
--- where none is found no byte is a line feed
-pub IsOpen-none : (bytes : List ℕ) → IsFirstByte (is_byte 10) bytes None → IsOpen bytes
-IsOpen-none bytes none = All-from_get_or (λ c. is_line_end c ≡ false) bytes 0 (λ k high. not_found (get_or bytes k 0) (none k (omega arith) high))
+-- where none is found no byte passes the test
+pub IsClear-none : (test : ℕ → Bool) (bytes : List ℕ) → IsFirstByte test bytes None → IsClear test bytes
+IsClear-none test bytes none = All-from_get_or (λ c. test c ≡ false) bytes 0 (λ k high. not_found test (get_or bytes k 0) (none k (omega arith) high))
 
--- no byte before the one that is found is a line feed
-pub IsOpen-some : (bytes : List ℕ) (n : ℕ) → IsFirstByte (is_byte 10) bytes (Some n) → IsOpen (take n bytes)
-IsOpen-some bytes n (range, at) =
-    All-from_get_or (λ c. is_line_end c ≡ false) (take n bytes) 0
+-- no byte before the one that is found passes the test
+pub IsClear-some : (test : ℕ → Bool) (bytes : List ℕ) (n : ℕ) → IsFirstByte test bytes (Some n) → IsClear test (take n bytes)
+IsClear-some test bytes n (range, at) =
+    All-from_get_or (λ c. test c ≡ false) (take n bytes) 0
     (λ k high.
     let below : k < n = omega (arith, range.high, length-take-le n bytes) in
-    rw (get_or-take n bytes k 0 below) (not_found (get_or bytes k 0) (range.before k (omega arith) below)))
+    rw (get_or-take n bytes k 0 below) (not_found test (get_or bytes k 0) (range.before k (omega arith) below)))
 
 -- the byte that is found
 pub drop-found : (bytes : List ℕ) (n : ℕ) → IsFirstByte (is_byte 10) bytes (Some n) → drop n bytes ≡ 10 ∷ drop (n + 1) bytes
@@ -93,14 +97,14 @@ pub IsSearched-some : (items : List ℕ) (at searched further : ℕ) → IsSearc
 IsSearched-some items at searched further (order, within, clear) found = (
   omega arith,
   omega (arith, found.0.high, length-drop at items),
-  IsOpen-some (drop at items) (searched + further - at) found,
+  IsClear-some is_line_end (drop at items) (searched + further - at) found,
 )
 
 pub IsSearched-none : (items : List ℕ) (at searched : ℕ) → IsSearched items at searched → IsFirstByte (is_byte 10) (drop at items) None → IsSearched items at (length items)
 IsSearched-none items at searched (order, within, clear) found = (
   omega arith,
   omega arith,
-  All-take (λ c. is_line_end c ≡ false) (length items - at) (drop at items) (IsOpen-none (drop at items) found),
+  All-take (λ c. is_line_end c ≡ false) (length items - at) (drop at items) (IsClear-none is_line_end (drop at items) found),
 )
 
 max_cases : (a b : ℕ) → ((b < a) × (ord_max nat_cmp a b ≡ a)) ⊎ ((a ≤ b) × (ord_max nat_cmp a b ≡ b))

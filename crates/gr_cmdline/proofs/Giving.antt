@@ -1,12 +1,11 @@
 -- What is given to a command, value by value.
-use Rattle.std.proofs.Common.{◌≡◌, ◌<◌, ◌≤◌, ◌+◌, ℕ, suc, String, Global, string_bytes, IfSome, Bool, true, false, cond, List, [], ◌∷◌, ◌++◌, drop, filter, get_or, length, map, take, Option, Some, None, is_some, option_map, find, Result, Ok, Err, refl, sym, ap, ◌∙◌, add-one, append_assoc, drop-cons, arith}
+use Rattle.std.proofs.Common.{◌≡◌, ◌<◌, ◌≤◌, ◌+◌, ℕ, suc, IfSome, IsUtf8, Bool, true, false, cond, List, [], ◌∷◌, ◌++◌, drop, filter, get_or, length, map, take, Option, Some, None, is_some, option_map, find, Result, Ok, Err, refl, sym, ap, ◌∙◌, add-one, append_assoc, drop-cons, arith, lt-ltb}
 use Rattle.std.proofs.lemmas.List.{append-nil, take_more}
-use Rattle.std.proofs.lemmas.Bool.{and_parts, false≢true}
+use Rattle.std.proofs.lemmas.Bool.{false≢true}
 use Rattle.std.proofs.lemmas.List.Folds.{find-append}
-use Rattle.std.proofs.lemmas.Str.{IsUtf8-string_bytes}
 use Rattle.std.specs.List.{AllByRecursion}
 use Rattle.std.specs.Option.{option_or}
-use Rattle.gr_cmdline.specs.Arguments.{AreTexts, IsText, are_filled, data_value, is_filled, is_filled_if_any, is_given, value_of}
+use Rattle.gr_cmdline.specs.Arguments.{IsText, are_filled, data_value, given_text, is_filled, is_given, value_of}
 use Rattle.gr_cmdline.specs.Binding.{bound_before, given_of, is_bound, label_of, place_after, repeated_behind}
 use Rattle.gr_cmdline.specs.Names.{is_same}
 use Rattle.gr_cmdline.specs.declared.argument.Argument.{Argument}
@@ -48,10 +47,6 @@ are_filled-given_of (argument ∷ others) = go (is_filled argument.value) refl (
     go true filled all = rw filled all
     go false empty all = all
 
--- a value with its parameter, as contracts see it
-abbrev pub shown : Param × String Global → Param × List ℕ
-shown value = (value.0, string_bytes value.1)
-
 -- the first of two answers
 option_or-map : (first second : Option (Param × List ℕ)) → option_map (λ (value : Param × List ℕ). value.1) (option_or first second) ≡ option_or (option_map (λ (value : Param × List ℕ). value.1) first) (option_map (λ (value : Param × List ℕ). value.1) second)
 option_or-map None second = refl
@@ -70,25 +65,25 @@ value_of-first given others param value is = ap (λ found. option_or found (valu
 pub value_of-second : (given others : List (Param × List ℕ)) (param : Param) → None ≡ value_of given param → value_of others param ≡ value_of (given ++ others) param
 value_of-second given others param is = ap (λ found. option_or found (value_of others param)) is ∙ sym (value_of-append given others param)
 
--- strings that are not empty are texts
-IsText-string : (text : String Global) → is_filled (string_bytes text) ≡ true → IsText (string_bytes text)
-IsText-string text filled = record { utf8 = IsUtf8-string_bytes text; filled = filled }
+-- values that are texts, and others behind them
+pub texts-append : (given others : List (Param × List ℕ)) → AllByRecursion (λ (value : Param × List ℕ). IsText value.1) given → AllByRecursion (λ (value : Param × List ℕ). IsText value.1) others → AllByRecursion (λ (value : Param × List ℕ). IsText value.1) (given ++ others)
+texts-append [] others texts more = more
+texts-append (value ∷ given) others texts more = (texts.0, texts-append given others texts.1 more)
 
-texts-given : (given : List (Param × String Global)) (loaded : Option (String Global)) → are_filled (map shown given ++ data_value (option_map string_bytes loaded)) ≡ true → AllByRecursion (λ (value : Param × List ℕ). IsText value.1) (map shown given ++ data_value (option_map string_bytes loaded))
-texts-given [] None filled = tt
-texts-given [] (Some text) filled = (IsText-string text (and_parts (is_filled (string_bytes text)) true filled).0, tt)
-texts-given (value ∷ others) loaded filled =
-    let both = and_parts (is_filled (string_bytes value.1)) (are_filled (map shown others ++ data_value (option_map string_bytes loaded))) filled in
-    (IsText-string value.1 both.0, texts-given others loaded both.1)
+-- a text that is given is not empty
+pub IsText-given : (text : List ℕ) → IsUtf8 text → IfSome (given_text text) IsText
+IsText-given [] utf8 = tt
+IsText-given (c ∷ cs) utf8 = record { utf8 = utf8; filled = lt-ltb 0 (length (c ∷ cs)) (omega arith) }
 
-texts-suffix : (suffix : Option (String Global)) → is_filled_if_any (option_map string_bytes suffix) ≡ true → IfSome (option_map string_bytes suffix) IsText
-texts-suffix None filled = tt
-texts-suffix (Some text) filled = IsText-string text filled
+-- load data that are text
+pub texts-data : (text : List ℕ) → IsUtf8 text → AllByRecursion (λ (value : Param × List ℕ). IsText value.1) (data_value (given_text text))
+texts-data [] utf8 = tt
+texts-data (c ∷ cs) utf8 = (IsText-given (c ∷ cs) utf8, tt)
 
--- what is given to a command is text
-pub AreTexts-given : (given : List (Param × String Global)) (loaded suffix : Option (String Global)) → are_filled (map shown given ++ data_value (option_map string_bytes loaded)) ≡ true → is_filled_if_any (option_map string_bytes suffix) ≡ true
-    → AreTexts (record { suffix = option_map string_bytes suffix; given = map shown given ++ data_value (option_map string_bytes loaded) })
-AreTexts-given given loaded suffix filled some = record { suffix = texts-suffix suffix some; given = texts-given given loaded filled }
+-- a text that is not empty is given
+pub given_text-filled : (text : List ℕ) → is_filled text ≡ true → given_text text ≡ Some text
+given_text-filled [] filled = cc
+given_text-filled (c ∷ cs) filled = refl
 
 -- arguments counted on by one at most
 pub place_after-le : (place : ℕ) (argument : Argument) → place_after place argument ≤ place + 1

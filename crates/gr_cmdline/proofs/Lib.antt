@@ -1,8 +1,10 @@
 mod Arguing
+mod Counting
 mod Ends
 mod Found
 mod Giving
 mod Lines
 mod Loading
+mod Runs
 mod Spelling
 mod Steps

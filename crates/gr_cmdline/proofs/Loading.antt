@@ -1,12 +1,11 @@
 -- What a load gives for its data.
-use Rattle.std.proofs.Common.{◌≡◌, ◌==◌, ◌||◌, Bool, false, cond, ℕ, List, [], ◌∷◌, length, nat_lt, refl, IsUtf8, ap, ◌∙◌, ⊎_elim}
+use Rattle.std.proofs.Common.{◌≡◌, Bool, false, cond, ℕ, List, [], IsUtf8, ap, ◌∙◌, ⊎_elim}
 use Rattle.std.proofs.lemmas.Bool.{cases_Bool}
 use Rattle.std.proofs.lemmas.Str.{IsUtf8-from_is_utf8, is_utf8-from_IsUtf8}
 use Rattle.std.specs.Str.{is_utf8}
 use Rattle.gr_base.specs.Fault.{fault_named}
 use Rattle.gr_base.specs.declared.fault.FaultKind.TheVariants.{LineTooLong, NotText, UnfinishedLoad}
-use Rattle.gr_cmdline.specs.LoadData.{Waiting, loaded, with_data, with_line}
-use Rattle.gr_cmdline.specs.Commands.{taken_by_load, taken_data}
+use Rattle.gr_cmdline.specs.LoadData.{Waiting, loaded, with_data}
 use Rattle.gr_cmdline.specs.declared.command.Next.TheVariants.{Command as Asked, Bad}
 
 -- data that are text
@@ -24,8 +23,3 @@ pub loaded-no_text : (waiting : Waiting) (whole : Bool) → waiting.too_long ≡
 loaded-no_text waiting whole short none =
     ap (λ (b : Bool). cond b (Bad (fault_named LineTooLong [])) (cond (is_utf8 waiting.text) (cond whole (Asked (with_data waiting.command waiting.text)) (Bad (fault_named UnfinishedLoad []))) (Bad (fault_named NotText [])))) short
     ∙ ap (λ (b : Bool). cond b (cond whole (Asked (with_data waiting.command waiting.text)) (Bad (fault_named UnfinishedLoad []))) (Bad (fault_named NotText []))) (no_text waiting.text none)
-
--- a line of data that is no line of blanks
-pub taken_by_load-some : (limit : ℕ) (waiting : Waiting) (line text : List ℕ) → (length text == 0) ≡ false → taken_by_load limit waiting line text ≡ taken_data (record { command = waiting.command; text = with_line waiting.text text; too_long = waiting.too_long || nat_lt limit (length line) })
-taken_by_load-some limit waiting line [] some = cc
-taken_by_load-some limit waiting line (c ∷ cs) some = refl

@@ -3,20 +3,19 @@ use Rattle.std.proofs.Common.{◌≡◌, ℕ, ◌+◌, ◌<◌, ◌≤◌, Bool,
 use Rattle.std.proofs.lemmas.List.{take-append-drop, take_all, length-drop}
 use Rattle.std.proofs.lemmas.Bool.{ne_eqb}
 use Rattle.memchr.specs.Find.{IsFirstByte, is_byte}
-use Rattle.gr_cmdline.specs.Commands.{IsItem, items_behind, taken}
+use Rattle.gr_cmdline.specs.Commands.{Taken, is_line_end, IsItem, items_behind, taken}
 use Rattle.gr_cmdline.specs.Line.{without_return}
 use Rattle.gr_cmdline.specs.LoadData.{Waiting, loaded}
 use Rattle.gr_cmdline.specs.Stream.{Buffered, Gives, GivesItem, HasNoLine, IsSameLeft, StandsFirst, Stream, buffered_in, first_taken, first_text, left, passed, size}
 use Rattle.gr_cmdline.specs.declared.command.Next.{Next}
 use Rattle.gr_cmdline.specs.declared.command.Next.TheVariants.{Command as Asked, Bad, NeedMore, End, NoMemory}
-use Rattle.gr_cmdline.specs.declared.taken.Taken.{Taken}
-use Rattle.gr_cmdline.proofs.Found.{IsOpen, IsOpen-none, IsOpen-some, drop-found}
+use Rattle.gr_cmdline.proofs.Found.{IsOpen, IsClear-none, IsClear-some, drop-found}
 use Rattle.gr_cmdline.proofs.Lines.{items_behind-end, items_behind-last, items_behind-line, items_behind-open}
 
 -- a line that ends at a line feed
 pub StandsFirst-found : (buffered : Buffered) (n : ℕ) → IsFirstByte (is_byte 10) buffered.bytes (Some n) → StandsFirst buffered n (n + 1)
 StandsFirst-found buffered n found = record {
-  whole = IsOpen-some buffered.bytes n found;
+  whole = IsClear-some is_line_end buffered.bytes n found;
   ends = inl (refl, drop-found buffered.bytes n found);
   some = omega arith;
   within = omega (arith, found.0.high);
@@ -25,7 +24,7 @@ StandsFirst-found buffered n found = record {
 -- the last line, which has no line feed
 pub StandsFirst-last : (buffered : Buffered) (n : ℕ) → buffered.ended ≡ true → 0 < n → n ≡ length buffered.bytes → IsFirstByte (is_byte 10) buffered.bytes None → StandsFirst buffered n n
 StandsFirst-last buffered n ended some all none = record {
-  whole = let same : take n buffered.bytes ≡ buffered.bytes = take_all n buffered.bytes (omega arith) in rw same (IsOpen-none buffered.bytes none);
+  whole = let same : take n buffered.bytes ≡ buffered.bytes = take_all n buffered.bytes (omega arith) in rw same (IsClear-none is_line_end buffered.bytes none);
   ends = inr (ended, all, refl);
   some = some;
   within = omega arith;
@@ -37,11 +36,11 @@ nil (c ∷ cs) none = absurd (omega arith)
 
 -- no line feed, and the text goes on
 pub HasNoLine-open : (buffered : Buffered) → buffered.ended ≡ false → IsFirstByte (is_byte 10) buffered.bytes None → HasNoLine buffered
-HasNoLine-open buffered goes_on none = record { whole = IsOpen-none buffered.bytes none; empty = λ ended. cc }
+HasNoLine-open buffered goes_on none = record { whole = IsClear-none is_line_end buffered.bytes none; empty = λ ended. cc }
 
 -- no line feed, and nothing is left
 pub HasNoLine-empty : (buffered : Buffered) (n : ℕ) → n ≡ length buffered.bytes → n ≤ 0 → IsFirstByte (is_byte 10) buffered.bytes None → HasNoLine buffered
-HasNoLine-empty buffered n all none absent = record { whole = IsOpen-none buffered.bytes absent; empty = λ ended. nil buffered.bytes (omega arith) }
+HasNoLine-empty buffered n all none absent = record { whole = IsClear-none is_line_end buffered.bytes absent; empty = λ ended. nil buffered.bytes (omega arith) }
 
 -- the items that are left, by the parts of a stream
 abbrev left_of : ℕ → Option Waiting → List ℕ → Bool → List ℕ → Bool → List Next

@@ -18,6 +18,11 @@ value_of given param = option_map (λ value. value.1) (find (λ value. is_same v
 abbrev pub is_given : List (Param × List ℕ) → Param → Bool
 is_given given param = is_some (value_of given param)
 
+-- a text that counts as not given where it is empty
+abbrev pub given_text : List ℕ → Option (List ℕ)
+given_text [] = None
+given_text (c ∷ cs) = Some (c ∷ cs)
+
 -- load data as a value, where there are some
 abbrev pub data_value : Option (List ℕ) → List (Param × List ℕ)
 data_value None = []
@@ -30,11 +35,6 @@ is_filled text = nat_lt 0 (length text)
 -- whether no value is empty
 abbrev pub are_filled : List (Param × List ℕ) → Bool
 are_filled given = list_all (λ value. is_filled value.1) given
-
--- a text, if any, is not empty
-abbrev pub is_filled_if_any : Option (List ℕ) → Bool
-is_filled_if_any None = true
-is_filled_if_any (Some text) = is_filled text
 
 -- UTF-8, and at least one byte
 pub record IsText (bytes : List ℕ) : Type 0 where

@@ -5,12 +5,11 @@ use Rattle.std.specs.Str.{chars}
 use Rattle.std.specs.Str.Lossy.{utf8_lossy}
 use Rattle.form_urlencoded.specs.Form.{decode, raw_pairs}
 use Rattle.gr_base.specs.declared.fault.FaultKind.TheVariants.{BadLine}
-use Rattle.gr_cmdline.specs.Words.{words}
+use Rattle.gr_cmdline.specs.Words.{Word, words}
 use Rattle.gr_cmdline.specs.declared.argument.Argument.{Argument}
 use Rattle.gr_cmdline.specs.declared.argument.Argument.TheVariants.{Named, Placed}
 use Rattle.gr_cmdline.specs.declared.argument.Asked.{Asked}
 use Rattle.gr_cmdline.specs.declared.refused.Refused.{Refused}
-use Rattle.gr_cmdline.specs.declared.words.Word.{Word}
 
 -- a line whose words cannot be read
 abbrev pub bad_line : Refused

@@ -3,7 +3,7 @@ use Rattle.std.specs.Prelude.{ℕ, ◌+◌, ◌||◌, not, Bool, if◌then◌els
 use Rattle.std.specs.List.{list_any}
 use Rattle.gr_base.specs.declared.fault.FaultKind.{FaultKind}
 use Rattle.gr_base.specs.declared.fault.FaultKind.TheVariants.{MissingArgument, RepeatedArgument, UnknownArgument, UnknownCommand}
-use Rattle.gr_cmdline.specs.Arguments.{Arguments, is_filled, is_given}
+use Rattle.gr_cmdline.specs.Arguments.{Arguments, given_text, is_filled, is_given}
 use Rattle.gr_cmdline.specs.Names.{is_same, param_name, verb_named}
 use Rattle.gr_cmdline.specs.Parameters.{param_named, param_placed, required}
 use Rattle.gr_cmdline.specs.declared.argument.Argument.{Argument}
@@ -64,11 +64,6 @@ repeated_behind past (argument ∷ others) =
 -- the values that are given: those that are not empty
 abbrev pub given_of : List Bound → List (Param × List ℕ)
 given_of bound = map (λ argument. (argument.param, argument.value)) (filter (λ argument. is_filled argument.value) bound)
-
--- a text that counts as not given where it is empty
-abbrev pub given_text : List ℕ → Option (List ℕ)
-given_text [] = None
-given_text (c ∷ cs) = Some (c ∷ cs)
 
 -- what a delete is missing where nothing says which record
 abbrev pub missing_choice : Verb → List (Param × List ℕ) → Option Param

@@ -9,11 +9,15 @@ use Rattle.gr_cmdline.specs.declared.command.Command.{Command}
 use Rattle.gr_cmdline.specs.declared.command.Next.{Next}
 use Rattle.gr_cmdline.specs.declared.command.Next.TheVariants.{Command as Asked, Bad, NeedMore, End, NoMemory}
 use Rattle.gr_cmdline.specs.declared.refused.Refused.{Refused}
-use Rattle.gr_cmdline.specs.declared.taken.Taken.{Taken}
 
 -- a line ends at a line feed
 abbrev pub is_line_end : ℕ → Bool
 is_line_end c = c == 10
+
+-- what a line gives, if anything, and the load that waits behind it
+pub record Taken : Type 0 where
+  pub item : Option Next
+  pub load : Option Waiting
 
 -- what a command gives: a load without values waits for its data
 abbrev pub taken_command : Command → Taken

@@ -1,12 +1,27 @@
 -- What a cursor over a line's characters has read, from those that were left to those that are left now.
-use Rattle.std.specs.Prelude.{ℕ, ◌≡◌, ◌≤◌, ◌<◌, Option, Some, None, option_and_then, option_map, Result, Ok, Err, List, [], ◌∷◌, length}
+use Rattle.std.specs.Prelude.{ℕ, Bool, true, false, ◌⊎◌, All, take, slice_index, ◌≡◌, ◌≤◌, ◌<◌, Option, Some, None, option_and_then, option_map, Result, Ok, Err, List, [], ◌∷◌, length}
 use Rattle.gr_cmdline.specs.Asked.{arguments, bad_line}
-use Rattle.gr_cmdline.specs.Words.{Rest, before, behind_backslash, behind_quotes, in_quotes, rest_from, with_char, words}
+use Rattle.gr_cmdline.specs.Words.{Rest, Word, before, behind_backslash, behind_quotes, in_quotes, rest_from, with_char, words}
 use Rattle.gr_cmdline.specs.declared.argument.Argument.{Argument}
 use Rattle.gr_cmdline.specs.declared.refused.Refused.{Refused}
 use Rattle.gr_cmdline.specs.declared.words.Quoted.{Quoted}
 use Rattle.gr_cmdline.specs.declared.words.Quoted.TheVariants.{Char, Closed, Open}
-use Rattle.gr_cmdline.specs.declared.words.Word.{Word}
+use Rattle.gr_cmdline.specs.declared.words.Word.{Word as Read}
+use Rattle.gr_cmdline.specs.declared.words.Word.TheVariants.{Plain, Quoted as InQuotes}
+
+-- this character comes first
+abbrev pub Begins : ℕ → List ℕ → Type 0
+Begins c line = (others : List ℕ) × (line ≡ c ∷ others)
+
+-- a run of bytes that fail a test ends here, where one passes it or none is left
+pub record EndsRun (test : ℕ → Bool) (bytes : List ℕ) (len : ℕ) : Type 0 where
+  pub clear : All (λ c. test c ≡ false) (take len bytes)
+  pub ends : (len ≡ length bytes) ⊎ ((len < length bytes) × (test (slice_index bytes len) ≡ true))
+
+-- a word that was read
+abbrev pub word_of : Read → Word
+word_of (Plain text) = record { text = text.now; quoted = false }
+word_of (InQuotes text) = record { text = text; quoted = true }
 
 -- the next character inside quotes
 abbrev pub ReadsQuoted : ℕ → List ℕ → List ℕ → Quoted → Type 0
@@ -26,9 +41,9 @@ ReadsText rest new (Ok text) = rest ≡ option_map (before text) (words new)
 ReadsText rest new (Err refusal) = (rest ≡ None) × (refusal ≡ bad_line)
 
 -- the next word, where one is left
-abbrev pub ReadsWord : List ℕ → List ℕ → Result (Option Word) Refused → Type 0
+abbrev pub ReadsWord : List ℕ → List ℕ → Result (Option Read) Refused → Type 0
 ReadsWord old new (Ok None) = words old ≡ Some []
-ReadsWord old new (Ok (Some word)) = (words old ≡ option_map (λ others. word ∷ others) (words new)) × (length new < length old)
+ReadsWord old new (Ok (Some word)) = (words old ≡ option_map (λ others. word_of word ∷ others) (words new)) × (length new < length old)
 ReadsWord old new (Err refusal) = (words old ≡ None) × (refusal ≡ bad_line)
 
 -- the arguments that the words of a line are

@@ -1,10 +1,9 @@
 -- What a reader of commands holds: a load that waits for its data, the bytes that it has not taken yet, and whether more can come.
 use Rattle.std.specs.Prelude.{ℕ, ◌≡◌, ◌≤◌, ◌<◌, ◌⊎◌, ◌+◌, ◌*◌, ◌++◌, ◌==◌, Bool, true, false, if◌then◌else◌, is_some, Option, List, [], ◌∷◌, All, drop, length, take}
-use Rattle.gr_cmdline.specs.Commands.{is_line_end, IsItem, items_behind, taken}
+use Rattle.gr_cmdline.specs.Commands.{Taken, is_line_end, IsItem, items_behind, taken}
 use Rattle.gr_cmdline.specs.Line.{without_return}
 use Rattle.gr_cmdline.specs.LoadData.{Waiting}
 use Rattle.gr_cmdline.specs.declared.command.Next.{Next}
-use Rattle.gr_cmdline.specs.declared.taken.Taken.{Taken}
 use Rattle.gr_cmdline.specs.declared.command.Next.TheVariants.{Command as Asked, Bad, NeedMore, End, NoMemory}
 
 -- the longest line that is taken, the load that waits, the bytes that are left, and whether the text has ended

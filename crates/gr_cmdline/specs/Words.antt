@@ -1,6 +1,5 @@
 -- The words of a line: between blanks, or in quotes.
 use Rattle.std.specs.Prelude.{ℕ, ◌==◌, ◌||◌, Bool, true, false, if◌then◌else◌, Option, Some, None, option_map, List, [], ◌∷◌, ◌++◌, encode_utf8}
-use Rattle.gr_cmdline.specs.declared.words.Word.{Word}
 
 -- a blank is a space or a tab
 abbrev pub is_blank : ℕ → Bool
@@ -13,6 +12,11 @@ is_quote c = c == 34 || c == 39
 -- what a character behind a backslash stands for
 abbrev pub escaped : ℕ → ℕ
 escaped c = if c == 110 then 10 else (if c == 116 then 9 else c)
+
+-- a word without its quotes, and whether it stood in quotes
+pub record Word : Type 0 where
+  pub text : List ℕ
+  pub quoted : Bool
 
 -- where a character of a line stands; a word in quotes ends at the quote that it began with
 pub data Place : Type 0 where

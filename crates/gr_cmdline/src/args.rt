@@ -1,40 +1,40 @@
 // What is given to a command.
-ghost use Rattle.std.specs.Prelude.{◌≡◌, ◌++◌, ◌∷◌, [], false, map, option_map, string_bytes, true};
+ghost use Rattle.std.specs.Prelude.{◌≡◌, ◌++◌, ◌∷◌, [], false, IsUtf8, option_map, string_bytes, true};
+ghost use Rattle.std.specs.List.{AllByRecursion};
 ghost use Rattle.gr_cmdline.specs.declared.param.Param.TheVariants.{Values};
-ghost use Rattle.gr_cmdline.specs.Arguments.{data_value, value_of};
-ghost use Rattle.gr_cmdline.specs.Binding.{given_text};
+ghost use Rattle.gr_cmdline.specs.Arguments.{IsText, data_value, given_text, value_of};
 
 use super::Param;
-use crate::text::Text;
+use gr_base::Bytes;
+use std::alloc::Global;
 use std::marker::Model;
 
 /// The values that are given to a command, and the suffix of the path that named it.
 #[derive(Drop)]
 pub struct Args {
-    given: Vec<(Param, String)>,
-    // Load data from the lines behind a load.
-    loaded: Option<String>,
-    suffix: Option<String>,
+    given: Vec<(Param, Bytes)>,
+    // Load data from the lines behind a load; they are never empty.
+    loaded: String,
+    suffix: Bytes,
 }
 
 impl Model for Args {
-    ghost use Rattle.std.specs.Prelude.{◌≡◌, ◌++◌, map, option_map, string_bytes, true};
-    ghost use Rattle.gr_cmdline.specs.Arguments.{Arguments, are_filled, data_value, is_filled_if_any};
+    ghost use Rattle.std.specs.Prelude.{◌++◌, IsUtf8, string_bytes};
+    ghost use Rattle.std.specs.List.{AllByRecursion};
+    ghost use Rattle.gr_cmdline.specs.Arguments.{Arguments, IsText, data_value, given_text};
 
     ghost Value = { Arguments };
 
     ghost view = { λ args. record {
-      suffix = option_map string_bytes args.suffix;
-      given = map (λ value. (value.0, string_bytes value.1)) args.given.items ++ data_value (option_map string_bytes args.loaded);
+      suffix = given_text args.suffix;
+      given = args.given.items ++ data_value (given_text (string_bytes args.loaded));
     } };
 
-    ghost invariant = { λ args. (are_filled (map (λ value. (value.0, string_bytes value.1)) args.given.items ++ data_value (option_map string_bytes args.loaded)) ≡ true)
-        × (is_filled_if_any (option_map string_bytes args.suffix) ≡ true) };
+    ghost invariant = { λ args. AllByRecursion (λ value. IsText value.1) args.given.items × IsUtf8 args.suffix };
 }
 
 impl Args {
-    ghost use Rattle.gr_cmdline.specs.Arguments.{AreTexts, are_filled, is_filled, is_given, value_of};
-    ghost use Rattle.gr_cmdline.specs.Binding.{given_text};
+    ghost use Rattle.gr_cmdline.specs.Arguments.{AreTexts, is_filled, is_given, value_of};
 
     /// The value of a parameter, where one is given that is not empty. Load data from the lines behind a load are the
     /// value of [`Param::Values`].
@@ -43,7 +43,7 @@ impl Args {
     {
         match value_among(self.given.as_slice(), param) {
             Some(value) => Some(value),
-            None => data_as(&self.loaded, param),
+            None => data_as(self.loaded.as_str(), param),
         }
     }
 
@@ -51,10 +51,7 @@ impl Args {
     pub fn suffix(&self) -> Option<&str>
         ensures { option_map (λ text. text.now) result ≡ self.now.suffix }
     {
-        match &self.suffix {
-            Some(suffix) => Some(suffix.as_str()),
-            None => None,
-        }
+        given_text(self.suffix.as_text())
     }
 
     /// Whether a parameter is given.
@@ -66,15 +63,16 @@ impl Args {
         self.get(param).is_some()
     }
 
-    /// What is given, of which no value is empty.
-    pub(crate) fn new(given: Vec<(Param, String)>, suffix: Text) -> Args
-        requires { are_filled (map (λ value. (value.0, string_bytes value.1)) given.items) ≡ true }
-        ensures { result ≡ record { suffix = given_text suffix; given = map (λ value. (value.0, string_bytes value.1)) given.items } }
+    /// What is given, of which no value is empty; takes no memory.
+    pub(crate) fn new(alloc: Global, given: Vec<(Param, Bytes)>, suffix: Bytes) -> Args
+        requires given { AllByRecursion (λ value. IsText value.1) given.items }
+        requires suffix { IsUtf8 suffix }
+        ensures { result ≡ record { suffix = given_text suffix; given = given.items } }
     {
         Args {
             given,
-            loaded: None,
-            suffix: given_string(suffix),
+            loaded: String::new(alloc),
+            suffix,
         }
     }
 
@@ -86,49 +84,41 @@ impl Args {
     {
         Args {
             given: self.given,
-            loaded: Some(text),
+            loaded: text,
             suffix: self.suffix,
         }
     }
 }
 
-/// A text as a string, where it is not empty.
-fn given_string(text: Text) -> Option<String>
-    ensures { option_map string_bytes result ≡ given_text text }
+/// A text, where it is not empty.
+fn given_text(text: &str) -> Option<&str>
+    ensures { option_map (λ given. given.now) result ≡ given_text text.now }
 {
-    if text.is_empty() {
-        None
-    } else {
-        Some(text.into_string())
-    }
+    if text.is_empty() { None } else { Some(text) }
 }
 
 /// The value of a parameter among these.
-fn value_among(given: &[(Param, String)], param: Param) -> Option<&str>
-    ensures { option_map (λ text. text.now) result ≡ value_of (map (λ value. (value.0, string_bytes value.1)) given.now) param }
+fn value_among(given: &[(Param, Bytes)], param: Param) -> Option<&str>
+    requires { AllByRecursion (λ value. IsText value.1) given.now }
+    ensures { option_map (λ text. text.now) result ≡ value_of given.now param }
 {
     let mut rest = given;
     'values: while let [value, others @ ..] = rest {
         if value.0.is_same(param) {
-            return Some(value.1.as_str());
+            return Some(value.1.as_text());
         }
         rest = others;
     }
     None
 }
 
-/// Load data as the value of a parameter.
-fn data_as(loaded: &Option<String>, param: Param) -> Option<&str>
-    ensures { option_map (λ text. text.now) result ≡ value_of (data_value (option_map string_bytes loaded.now)) param }
+/// Load data as the value of a parameter, where there are some.
+fn data_as(loaded: &str, param: Param) -> Option<&str>
+    ensures { option_map (λ text. text.now) result ≡ value_of (data_value (given_text loaded.now)) param }
 {
-    match loaded {
-        Some(text) => {
-            if Param::Values.is_same(param) {
-                Some(text.as_str())
-            } else {
-                None
-            }
-        }
-        None => None,
+    if Param::Values.is_same(param) {
+        given_text(loaded)
+    } else {
+        None
     }
 }

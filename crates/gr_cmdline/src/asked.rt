@@ -1,7 +1,7 @@
 // What a line asks for, in words or by a path.
-ghost use Rattle.std.specs.Prelude.{◌≡◌, ◌∷◌, IfOk, Some, None, drop, if◌then◌else◌};
+ghost use Rattle.std.specs.Prelude.{◌≡◌, ◌∷◌, IfOk, Some, None, drop, if◌then◌else◌, option_map};
 ghost use Rattle.gr_cmdline.specs.Asked.{asked_by_line, asked_of, asked_with, names_argument};
-ghost use Rattle.gr_cmdline.specs.Reading.{ReadsArgument, ReadsArguments, arguments_behind, arguments_in};
+ghost use Rattle.gr_cmdline.specs.Reading.{ReadsArgument, ReadsArguments, arguments_behind, arguments_in, word_of};
 
 use crate::argument::{Argument, Asked};
 use crate::cursor::Cursor;
@@ -13,7 +13,10 @@ use gr_base::{ListOf, NoMemory};
 use std::alloc::Global;
 
 /// What a line asks for.
-pub(crate) fn asked_of(alloc: Global, line: &str) -> Result<Result<Asked, Refused>, NoMemory>
+pub(crate) fn asked_of<'a>(
+    alloc: Global,
+    line: &'a str,
+) -> Result<Result<Asked<'a>, Refused<'a>>, NoMemory>
     ensures { IfOk result (λ asked. asked ≡ asked_of line.now) }
 {
     match without_prefix(line, "/d/") {
@@ -23,29 +26,32 @@ pub(crate) fn asked_of(alloc: Global, line: &str) -> Result<Result<Asked, Refuse
 }
 
 /// What a line in words asks for: the first is the command's name.
-fn asked_by_line(alloc: Global, line: &str) -> Result<Result<Asked, Refused>, NoMemory>
+fn asked_by_line<'a>(
+    alloc: Global,
+    line: &'a str,
+) -> Result<Result<Asked<'a>, Refused<'a>>, NoMemory>
     ensures { IfOk result (λ asked. asked ≡ asked_by_line line.now) }
 {
     let mut cursor = Cursor::new(line);
     match cursor.next_word(alloc)? {
-        Ok(Some(word)) => asked_with(alloc, word.text, &mut cursor),
-        Ok(None) => Ok(Err(Refused::bad_line(alloc))),
+        Ok(Some(word)) => asked_with(alloc, word.into_text(), &mut cursor),
+        Ok(None) => Ok(Err(Refused::bad_line())),
         Err(refusal) => Ok(Err(refusal)),
     }
 }
 
 /// A command of this name with the arguments that are left.
-fn asked_with(
+fn asked_with<'a>(
     alloc: Global,
-    name: Text,
-    cursor: &mut Cursor<'_>,
-) -> Result<Result<Asked, Refused>, NoMemory>
-    ensures { IfOk result (λ asked. asked ≡ asked_with name (arguments_in cursor.old)) }
+    name: Text<'a>,
+    cursor: &mut Cursor<'a>,
+) -> Result<Result<Asked<'a>, Refused<'a>>, NoMemory>
+    ensures { IfOk result (λ asked. asked ≡ asked_with name.entry (arguments_in cursor.old)) }
 {
     match cursor.arguments(alloc)? {
         Ok(arguments) => Ok(Ok(Asked {
             name,
-            suffix: Text::new(alloc),
+            suffix: Text::new(),
             arguments,
         })),
         Err(refusal) => Ok(Err(refusal)),
@@ -54,7 +60,10 @@ fn asked_with(
 
 impl<'a> Cursor<'a> {
     /// The arguments that are left.
-    fn arguments(&mut self, alloc: Global) -> Result<Result<ListOf<Argument>, Refused>, NoMemory>
+    fn arguments(
+        &mut self,
+        alloc: Global,
+    ) -> Result<Result<ListOf<Argument<'a>>, Refused<'a>>, NoMemory>
         ensures { IfOk result (λ read. ReadsArguments (arguments_in self.old) read) }
     {
         let mut arguments = Vec::new(alloc);
@@ -71,7 +80,7 @@ impl<'a> Cursor<'a> {
     fn next_argument(
         &mut self,
         alloc: Global,
-    ) -> Result<Result<Option<Argument>, Refused>, NoMemory>
+    ) -> Result<Result<Option<Argument<'a>>, Refused<'a>>, NoMemory>
         ensures { IfOk result (λ read. ReadsArgument (arguments_in self.old) self.old self.new read) }
     {
         match self.next_word(alloc)? {
@@ -85,33 +94,42 @@ impl<'a> Cursor<'a> {
     fn argument_of(
         &mut self,
         alloc: Global,
-        word: Word,
-    ) -> Result<Result<Option<Argument>, Refused>, NoMemory>
-        ensures { IfOk result (λ read. ReadsArgument (arguments_behind word self.old) (0 ∷ self.old) self.new read) }
+        word: Word<'a>,
+    ) -> Result<Result<Option<Argument<'a>>, Refused<'a>>, NoMemory>
+        ensures { IfOk result (λ read. ReadsArgument (arguments_behind (word_of word.entry) self.old) (0 ∷ self.old) self.new read) }
     {
-        let Some(name) = argument_name(alloc, &word)? else {
-            return Ok(Ok(Some(Argument::Placed(word.text))));
+        let Some(name) = argument_name(&word) else {
+            return Ok(Ok(Some(Argument::Placed(word.into_text()))));
         };
         match self.next_word(alloc)? {
             Ok(Some(value)) => Ok(Ok(Some(Argument::Named {
-                name,
-                value: value.text,
+                name: Text::lent(name),
+                value: value.into_text(),
             }))),
-            Ok(None) => Ok(Err(Refused::bad_line(alloc))),
+            Ok(None) => Ok(Err(Refused::bad_line())),
             Err(refusal) => Ok(Err(refusal)),
         }
     }
 }
 
-/// The name of the argument that a word names, where it names one.
-fn argument_name(alloc: Global, word: &Word) -> Result<Option<Text>, NoMemory>
-    ensures { IfOk result (λ name. name ≡ (if names_argument word.now then Some (drop 2 word.now.text) else None)) }
-{
-    if word.quoted {
-        return Ok(None);
+impl<'a> Word<'a> {
+    /// Its text.
+    fn into_text(self) -> Text<'a>
+        ensures { result ≡ (word_of self.entry).text }
+    {
+        match self {
+            Word::Plain(text) => Text::lent(text),
+            Word::Quoted(text) => text,
+        }
     }
-    match without_prefix(word.text.as_str(), "--") {
-        Some(name) => Ok(Some(Text::of(alloc, name)?)),
-        None => Ok(None),
+}
+
+/// The name of the argument that a word names, where it names one.
+fn argument_name<'a>(word: &Word<'a>) -> Option<&'a str>
+    ensures { option_map (λ name. name.now) result ≡ (if names_argument (word_of word.now) then Some (drop 2 (word_of word.now).text) else None) }
+{
+    match word {
+        Word::Plain(text) => without_prefix(text, "--"),
+        Word::Quoted(_) => None,
     }
 }

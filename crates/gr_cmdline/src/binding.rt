@@ -1,6 +1,7 @@
 // Which command a line asks for: its arguments are bound to its parameters.
-ghost use Rattle.std.specs.Prelude.{◌≡◌, ◌+◌, ◌++◌, ◌∷◌, ◌<◌, ◌^◌, [], IfOk, OnOk, Ok, find, map, not, string_bytes};
-ghost use Rattle.gr_cmdline.specs.Arguments.{is_given};
+ghost use Rattle.std.specs.Prelude.{◌≡◌, ◌+◌, ◌++◌, ◌∷◌, ◌<◌, ◌^◌, [], IfOk, OnOk, Ok, find, not};
+ghost use Rattle.std.specs.List.{AllByRecursion};
+ghost use Rattle.gr_cmdline.specs.Arguments.{IsText, is_given};
 ghost use Rattle.gr_cmdline.specs.Binding.{bound_from, bound_one, command_of, complete, given_of, is_bound, label_of, missing, missing_choice, place_after, repeated_behind, with_bound};
 
 use super::{Args, Command, Param, Verb};
@@ -9,12 +10,15 @@ use crate::bound::Bound;
 use crate::refused::Refused;
 use crate::text::Text;
 use crate::verb::verb_named;
-use gr_base::{FaultKind, ListOf, NoMemory};
+use gr_base::{Bytes, FaultKind, ListOf, NoMemory};
 use std::alloc::Global;
 
 /// The command that a line asks for.
-pub(crate) fn command_of(alloc: Global, asked: Asked) -> Result<Result<Command, Refused>, NoMemory>
-    ensures { IfOk result (λ command. command ≡ command_of asked) }
+pub(crate) fn command_of<'a>(
+    alloc: Global,
+    asked: Asked<'a>,
+) -> Result<Result<Command, Refused<'a>>, NoMemory>
+    ensures { IfOk result (λ command. command ≡ command_of asked.entry) }
 {
     match verb_named(asked.name.as_str()) {
         Some(verb) => with_arguments(alloc, verb, asked.suffix, asked.arguments),
@@ -26,13 +30,13 @@ pub(crate) fn command_of(alloc: Global, asked: Asked) -> Result<Result<Command, 
 }
 
 /// The command with its arguments.
-fn with_arguments(
+fn with_arguments<'a>(
     alloc: Global,
     verb: Verb,
-    suffix: Text,
-    arguments: ListOf<Argument>,
-) -> Result<Result<Command, Refused>, NoMemory>
-    ensures { IfOk result (λ command. command ≡ with_bound verb suffix (bound_from verb 0 arguments)) }
+    suffix: Text<'a>,
+    arguments: ListOf<Argument<'a>>,
+) -> Result<Result<Command, Refused<'a>>, NoMemory>
+    ensures { IfOk result (λ command. command ≡ with_bound verb suffix.entry (bound_from verb 0 arguments.entry)) }
 {
     match bound(alloc, verb, arguments)? {
         Ok(bound) => unrepeated(alloc, verb, suffix, bound),
@@ -41,12 +45,12 @@ fn with_arguments(
 }
 
 /// Each argument with its parameter; the first without one is refused.
-fn bound(
+fn bound<'a>(
     alloc: Global,
     verb: Verb,
-    arguments: ListOf<Argument>,
-) -> Result<Result<ListOf<Bound>, Refused>, NoMemory>
-    ensures { IfOk result (λ bound. bound ≡ bound_from verb 0 arguments) }
+    arguments: ListOf<Argument<'a>>,
+) -> Result<Result<ListOf<Bound<'a>>, Refused<'a>>, NoMemory>
+    ensures { IfOk result (λ bound. bound ≡ bound_from verb 0 arguments.entry) }
 {
     let mut bound = Vec::new(alloc);
     let mut place = 0;
@@ -62,7 +66,7 @@ fn bound(
 }
 
 /// How many arguments that stand by their place stand before the one after this.
-fn place_after(place: usize, argument: &Argument) -> usize
+fn place_after(place: usize, argument: &Argument<'_>) -> usize
     requires { place + 1 < 2 ^ 64 }
     ensures { result ≡ place_after place argument.now }
 {
@@ -73,8 +77,8 @@ fn place_after(place: usize, argument: &Argument) -> usize
 }
 
 /// An argument with its parameter, where so many stand by their place before it.
-fn bound_one(verb: Verb, place: usize, argument: Argument) -> Result<Bound, Refused>
-    ensures { result ≡ bound_one verb place argument }
+fn bound_one<'a>(verb: Verb, place: usize, argument: Argument<'a>) -> Result<Bound<'a>, Refused<'a>>
+    ensures { result ≡ bound_one verb place argument.entry }
 {
     match argument {
         Argument::Named { name, value } => match verb.param_named(name.as_str()) {
@@ -103,86 +107,91 @@ fn bound_one(verb: Verb, place: usize, argument: Argument) -> Result<Bound, Refu
 }
 
 /// The command with its arguments, unless a parameter is repeated or missing.
-fn unrepeated(
+fn unrepeated<'a>(
     alloc: Global,
     verb: Verb,
-    suffix: Text,
-    bound: ListOf<Bound>,
-) -> Result<Result<Command, Refused>, NoMemory>
-    ensures { IfOk result (λ command. command ≡ with_bound verb suffix (Ok bound)) }
+    suffix: Text<'a>,
+    bound: ListOf<Bound<'a>>,
+) -> Result<Result<Command, Refused<'a>>, NoMemory>
+    ensures { IfOk result (λ command. command ≡ with_bound verb suffix.entry (Ok bound.entry)) }
 {
-    if let Some(name) = repeated(alloc, bound.as_slice())? {
+    if let Some(name) = repeated(bound.as_slice())? {
         return Ok(Err(Refused {
             kind: FaultKind::RepeatedArgument,
             name,
         }));
     }
-    let args = Args::new(given_of(alloc, bound)?, suffix);
-    complete(alloc, verb, args)
+    let args = Args::new(alloc, given_of(alloc, bound)?, suffix.into_bytes(alloc)?);
+    Ok(complete(verb, args))
 }
 
 /// The name of the first argument whose parameter stood before it. At most one argument more than there are parameters is looked at.
-fn repeated(alloc: Global, bound: &[Bound]) -> Result<Option<Text>, NoMemory>
+fn repeated<'a>(bound: &[Bound<'a>]) -> Result<Option<Text<'a>>, NoMemory>
     ensures { IfOk result (λ name. name ≡ repeated_behind [] bound.now) }
 {
     for (i, argument) in bound.iter().enumerate() {
         if is_bound(&bound[..i], argument.param) {
-            return Ok(Some(label_of(alloc, argument)?));
+            return Ok(Some(label_of(argument)?));
         }
     }
     Ok(None)
 }
 
 /// Whether one of these arguments speaks of a parameter.
-fn is_bound(bound: &[Bound], param: Param) -> bool
+fn is_bound(bound: &[Bound<'_>], param: Param) -> bool
     ensures { result ≡ is_bound bound.now param }
 {
     bound.iter().any(|argument| argument.param.is_same(param))
 }
 
 /// The name by which an argument speaks of its parameter.
-fn label_of(alloc: Global, argument: &Bound) -> Result<Text, NoMemory>
+fn label_of<'a>(argument: &Bound<'a>) -> Result<Text<'a>, NoMemory>
     ensures { IfOk result (λ name. name ≡ label_of argument.now) }
 {
     match &argument.label {
-        Some(label) => Text::of(alloc, label.as_str()),
-        None => Text::of(alloc, argument.param.name()),
+        Some(label) => label.try_clone(),
+        None => Ok(Text::lent(argument.param.name())),
     }
 }
 
 /// The values that are given: those that are not empty.
-fn given_of(alloc: Global, bound: ListOf<Bound>) -> Result<Vec<(Param, String)>, NoMemory>
-    ensures { IfOk result (λ given. map (λ value. (value.0, string_bytes value.1)) given.items ≡ given_of bound) }
+fn given_of(alloc: Global, bound: ListOf<Bound<'_>>) -> Result<Vec<(Param, Bytes)>, NoMemory>
+    ensures given { IfOk result (λ given. given.items ≡ given_of bound.entry) }
+    ensures texts { IfOk result (λ given. AllByRecursion (λ value. IsText value.1) given.items) }
 {
     let mut given = Vec::new(alloc);
     for argument in bound.into_vec() {
-        push_given(&mut given, argument)?;
+        push_given(alloc, &mut given, argument)?;
     }
     Ok(given)
 }
 
 /// Adds the value of an argument, where it is not empty.
-fn push_given(given: &mut Vec<(Param, String)>, argument: Bound) -> Result<(), NoMemory>
-    ensures { OnOk result (map (λ value. (value.0, string_bytes value.1)) given.new.items
-        ≡ map (λ value. (value.0, string_bytes value.1)) given.old.items ++ given_of (argument ∷ [])) }
+fn push_given(
+    alloc: Global,
+    given: &mut Vec<(Param, Bytes)>,
+    argument: Bound<'_>,
+) -> Result<(), NoMemory>
+    ensures given { OnOk result (given.new.items ≡ given.old.items ++ given_of (argument.entry ∷ [])) }
+    ensures texts { AllByRecursion (λ value. IsText value.1) given.old.items → OnOk result (AllByRecursion (λ value. IsText value.1) given.new.items) }
 {
     if argument.value.is_empty() {
         return Ok(());
     }
-    given.push((argument.param, argument.value.into_string()))?;
+    given.push((argument.param, argument.value.into_bytes(alloc)?))?;
     Ok(())
 }
 
 /// The command, unless a parameter is missing.
-fn complete(alloc: Global, verb: Verb, args: Args) -> Result<Result<Command, Refused>, NoMemory>
-    ensures { IfOk result (λ command. command ≡ complete verb args (missing verb args.given)) }
+fn complete(verb: Verb, args: Args) -> Result<Command, Refused<'static>>
+    ensures { result ≡ complete verb args (missing verb args.given) }
 {
     match missing(verb, &args) {
-        Some(param) => Ok(Err(Refused {
+        Some(param) => Err(Refused {
             kind: FaultKind::MissingArgument,
-            name: Text::of(alloc, param.name())?,
-        })),
-        None => Ok(Ok(Command { verb, args })),
+            name: Text::lent(param.name()),
+        }),
+        None => Ok(Command { verb, args }),
     }
 }
 

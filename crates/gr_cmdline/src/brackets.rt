@@ -1,7 +1,9 @@
 // The brackets that are open in load data.
-ghost use Rattle.std.specs.Prelude.{◌≡◌, ◌+◌, ◌<◌, ◌≤◌, ◌^◌, fold, length};
+ghost use Rattle.std.specs.Prelude.{◌≡◌, ◌+◌, ◌<◌, ◌≤◌, ◌^◌, fold, length, take};
 ghost use Rattle.gr_cmdline.specs.declared.brackets.Inside.TheVariants.{Data};
 ghost use Rattle.gr_cmdline.specs.LoadData.{after_data, after_quoted, at_depth};
+
+use crate::scan::{len_before_three, len_before_two};
 
 /// Where the next byte of load data stands.
 #[derive(Clone, Copy)]
@@ -43,10 +45,29 @@ impl Brackets {
         ensures bound { result.depth ≤ self.depth + length bytes.now }
     {
         let mut count = self;
-        for c in bytes {
-            count = count.after_byte(*c);
+        let mut rest = bytes;
+        'marks: loop {
+            let (_, marked) = rest.split_at(count.unmarked(rest));
+            let [mark, others @ ..] = marked else {
+                return count;
+            };
+            count = count.after_byte(*mark);
+            rest = others;
         }
-        count
+    }
+
+    /// How many bytes come first that change nothing.
+    #[inline]
+    fn unmarked(self, bytes: &[u8]) -> usize
+        ensures exact { fold after_byte self (take result bytes.now) ≡ self }
+        ensures within { result ≤ length bytes.now }
+    {
+        match self.inside {
+            Inside::Data => len_before_three(bytes, b'[', b']', b'"'),
+            Inside::Quoted => len_before_two(bytes, b'"', b'\\'),
+            Inside::Backslash => 0,
+            Inside::Closed => bytes.len(),
+        }
     }
 
     /// Whether the count has returned to 0.

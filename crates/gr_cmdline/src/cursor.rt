@@ -1,7 +1,10 @@
-// A place in a line, from which characters are read.
-ghost use Rattle.std.specs.Prelude.{◌≡◌, ◌∷◌, [], MatchOption};
+// A place in a line, from which characters and runs of them are read.
+ghost use Rattle.std.specs.Prelude.{◌≡◌, ◌<◌, ◌∷◌, ◌++◌, [], All, MatchOption, List, false, true, ℕ};
 ghost use Rattle.std.specs.Str.{chars};
+ghost use Rattle.memchr.specs.Find.{is_byte2};
+ghost use Rattle.gr_cmdline.specs.Reading.{Begins};
 
+use crate::scan::len_before_two;
 use std::marker::Model;
 
 /// The characters of a line that are left.
@@ -27,6 +30,15 @@ impl<'a> Cursor<'a> {
         Cursor { rest: line }
     }
 
+    /// The next character, which stays.
+    #[inline]
+    pub(crate) fn peek(&self) -> Option<char>
+        ensures { MatchOption result (self.now ≡ []) (λ c. Begins c self.now) }
+    {
+        let (c, _) = first_char(self.rest)?;
+        Some(c)
+    }
+
     /// The next character.
     #[inline]
     pub(crate) fn next(&mut self) -> Option<char>
@@ -35,6 +47,20 @@ impl<'a> Cursor<'a> {
         let (c, rest) = first_char(self.rest)?;
         self.rest = rest;
         Some(c)
+    }
+
+    /// The text up to the first of two ASCII characters, which stays, or to the end.
+    #[inline]
+    pub(crate) fn up_to(&mut self, one: char, other: char) -> &'a str
+        requires ascii { (one < 128) × (other < 128) }
+        ensures read { self.old ≡ chars result.now ++ self.new }
+        ensures run { All (λ c. is_byte2 one other c ≡ false) (chars result.now) }
+        ensures stop { (c : ℕ) (cs : List ℕ) → self.new ≡ c ∷ cs → is_byte2 one other c ≡ true }
+    {
+        let len = len_before_two(self.rest.as_bytes(), one as u8, other as u8);
+        let (run, rest) = self.rest.split_at(len);
+        self.rest = rest;
+        run
     }
 }
 

@@ -17,6 +17,7 @@ mod parameters;
 mod path;
 mod reader;
 mod refused;
+mod scan;
 mod taken;
 #[cfg(test)]
 mod tests;

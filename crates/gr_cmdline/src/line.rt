@@ -13,11 +13,11 @@ use gr_base::{FaultKind, NoMemory};
 use std::alloc::Global;
 
 /// What a line asks for, where it asks for something.
-pub(crate) fn line_of(
+pub(crate) fn line_of<'a>(
     alloc: Global,
     limit: u64,
-    line: &[u8],
-) -> Result<Option<Result<Command, Refused>>, NoMemory>
+    line: &'a [u8],
+) -> Result<Option<Result<Command, Refused<'a>>>, NoMemory>
     ensures { IfOk result (λ asked. asked ≡ line_of limit line.now) }
 {
     let text = trimmed(line);
@@ -28,25 +28,25 @@ pub(crate) fn line_of(
 }
 
 /// The command of a line that is not skipped.
-fn command_of_line(
+fn command_of_line<'a>(
     alloc: Global,
     limit: u64,
     line: &[u8],
-    text: &[u8],
-) -> Result<Result<Command, Refused>, NoMemory>
+    text: &'a [u8],
+) -> Result<Result<Command, Refused<'a>>, NoMemory>
     ensures { IfOk result (λ command. command ≡ command_of_line limit line.now text.now) }
 {
     if line.len() as u64 > limit {
-        return Ok(Err(Refused::unnamed(alloc, FaultKind::LineTooLong)));
+        return Ok(Err(Refused::unnamed(FaultKind::LineTooLong)));
     }
     match as_text(text) {
         Some(text) => command_asked(alloc, text),
-        None => Ok(Err(Refused::unnamed(alloc, FaultKind::NotText))),
+        None => Ok(Err(Refused::unnamed(FaultKind::NotText))),
     }
 }
 
 /// The command that a text asks for.
-fn command_asked(alloc: Global, text: &str) -> Result<Result<Command, Refused>, NoMemory>
+fn command_asked<'a>(alloc: Global, text: &'a str) -> Result<Result<Command, Refused<'a>>, NoMemory>
     ensures { IfOk result (λ command. command ≡ command_asked (asked_of text.now)) }
 {
     match asked_of(alloc, text)? {

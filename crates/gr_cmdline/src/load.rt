@@ -1,14 +1,16 @@
 // A load that waits for its data on the lines that follow.
-ghost use Rattle.std.specs.Prelude.{◌≡◌, ◌||◌, ◌++◌, ◌∷◌, [], IfOk, OnErr, OnOk, false, length, nat_lt, string_bytes, true};
+ghost use Rattle.std.specs.Prelude.{◌≡◌, ◌||◌, ◌++◌, ◌∷◌, [], IfOk, None, OnErr, OnOk, Some, false, if◌then◌else◌, length, nat_lt, string_bytes, true};
 ghost use Rattle.gr_cmdline.specs.Arguments.{is_filled, is_given};
 ghost use Rattle.gr_base.specs.Fault.{fault_named};
-ghost use Rattle.gr_cmdline.specs.Commands.{IsItem};
+ghost use Rattle.gr_cmdline.specs.Commands.{IsItem, taken_by_load};
+ghost use Rattle.gr_cmdline.specs.Line.{trimmed};
 ghost use Rattle.gr_cmdline.specs.LoadData.{with_data, with_line};
 ghost use Rattle.gr_cmdline.specs.declared.command.Next.TheVariants.{Bad, Command as Asked};
 ghost use Rattle.gr_cmdline.specs.declared.param.Param.TheVariants.{Values};
 
 use super::{Command, Next, Param};
 use crate::brackets::Brackets;
+use crate::line::trimmed;
 use gr_base::{Bytes, Fault, FaultKind, NoMemory};
 use std::alloc::Global;
 use std::marker::Model;
@@ -54,8 +56,23 @@ impl Load {
         })
     }
 
+    /// Takes a line among the data, and says whether they are whole with it; a line of blanks is skipped.
+    pub(crate) fn take_line(&mut self, limit: u64, line: &[u8]) -> Result<bool, NoMemory>
+        ensures ok { IfOk result (λ whole. taken_by_load limit self.old line.now (trimmed line.now)
+            ≡ (if whole then record { item = Some (loaded self.new true); load = None } else record { item = None; load = Some self.new })) }
+        ensures filled { IfOk result (λ whole. whole ≡ true → is_filled self.new.text ≡ true) }
+        ensures err { OnErr result (self.new ≡ self.old) }
+    {
+        let text = trimmed(line);
+        if text.is_empty() {
+            return Ok(false);
+        }
+        self.push_line(limit, line, text)?;
+        Ok(self.is_whole())
+    }
+
     /// Takes a line of data, of which this is without the blanks at its ends.
-    pub(crate) fn push_line(&mut self, limit: u64, line: &[u8], text: &[u8]) -> Result<(), NoMemory>
+    fn push_line(&mut self, limit: u64, line: &[u8], text: &[u8]) -> Result<(), NoMemory>
         ensures ok { OnOk result (self.new ≡ record { command = self.old.command; text = with_line self.old.text text.now; too_long = self.old.too_long || nat_lt limit (length line.now) }) }
         ensures err { OnErr result (self.new ≡ self.old) }
     {
@@ -67,7 +84,7 @@ impl Load {
     }
 
     /// Whether the data so far are whole.
-    pub(crate) fn is_whole(&self) -> bool
+    fn is_whole(&self) -> bool
         ensures { result ≡ is_whole self.now.text }
     {
         match self.text.first() {

@@ -11,14 +11,14 @@ use gr_base::{ListOf, NoMemory};
 use std::alloc::Global;
 
 /// What a line asks for whose command is named by a path.
-pub(crate) fn asked_by_path(alloc: Global, path: &str) -> Result<Asked, NoMemory>
+pub(crate) fn asked_by_path<'a>(alloc: Global, path: &'a str) -> Result<Asked<'a>, NoMemory>
     ensures { IfOk result (λ asked. asked ≡ asked_by_path path.now) }
 {
     let (front, pairs) = around_question(path);
     let (name, suffix) = around_dot(front);
     Ok(Asked {
-        name: Text::of(alloc, name)?,
-        suffix: Text::of(alloc, suffix)?,
+        name: Text::lent(name),
+        suffix: Text::lent(suffix),
         arguments: arguments_of_pairs(alloc, pairs.as_bytes())?,
     })
 }
@@ -46,7 +46,7 @@ fn around_dot(text: &str) -> (&str, &str)
 }
 
 /// The arguments that pairs are.
-fn arguments_of_pairs(alloc: Global, pairs: &[u8]) -> Result<ListOf<Argument>, NoMemory>
+fn arguments_of_pairs<'a>(alloc: Global, pairs: &'a [u8]) -> Result<ListOf<Argument<'a>>, NoMemory>
     ensures { IfOk result (λ read. read ≡ map argument_of_pair (raw_pairs pairs.now)) }
 {
     let mut arguments = Vec::new(alloc);
@@ -60,9 +60,8 @@ fn arguments_of_pairs(alloc: Global, pairs: &[u8]) -> Result<ListOf<Argument>, N
 }
 
 /// One side of a pair as a text.
-fn side(alloc: Global, bytes: &[u8]) -> Result<Text, NoMemory>
+fn side<'a>(alloc: Global, bytes: &'a [u8]) -> Result<Text<'a>, NoMemory>
     ensures { IfOk result (λ text. text ≡ side bytes.now) }
 {
-    let text = decode(alloc, bytes)?;
-    Ok(Text::from_string(text.into_owned(alloc)?))
+    Ok(Text::from_cow(decode(alloc, bytes)?))
 }

@@ -1,70 +1,80 @@
-// Texts that contracts see as lists of bytes.
-ghost use Rattle.std.specs.Prelude.{◌≡◌, ◌==◌, ◌++◌, [], IfOk, None, OnOk, Some, drop, encode_utf8, if◌then◌else◌, length, option_map, string_bytes};
+// Texts of a line, that contracts see as lists of bytes.
+ghost use Rattle.std.specs.Prelude.{◌≡◌, ◌==◌, ◌++◌, [], IfOk, IsUtf8, None, Some, drop, encode_utf8, if◌then◌else◌, length, option_map};
+ghost use Rattle.std.specs.Cow.{cow_str_bytes};
 ghost use Rattle.std.specs.List.{starts_with};
 
-use gr_base::NoMemory;
+use gr_base::{Bytes, NoMemory};
 use std::alloc::Global;
+use std::borrow::CowStr;
 use std::marker::Model;
 
-/// How many bytes a usual word has.
-const WORD_LEN: usize = 24;
-
-/// A text of its own.
+/// A text that the line holds, or one of its own where the line spells it otherwise.
 #[derive(Drop)]
-pub(crate) struct Text {
-    text: String,
+pub(crate) struct Text<'a> {
+    text: CowStr<'a>,
 }
 
-impl Model for Text {
-    ghost use Rattle.std.specs.Prelude.{List, ℕ, string_bytes};
+impl<'a> Model for Text<'a> {
+    ghost use Rattle.std.specs.Prelude.{List, ℕ};
+    ghost use Rattle.std.specs.Cow.{cow_str_bytes};
 
     ghost Value = { List ℕ };
 
-    ghost view = { λ text. string_bytes text.text };
+    ghost view = { λ text. cow_str_bytes text.text };
 }
 
-impl Text {
-    /// The empty text; takes no memory.
-    pub(crate) fn new(alloc: Global) -> Text
+impl<'a> Text<'a> {
+    /// The empty text.
+    pub(crate) fn new() -> Text<'a>
         ensures { result ≡ [] }
     {
+        Text::lent("")
+    }
+
+    /// A text that is lent.
+    pub(crate) fn lent(text: &'a str) -> Text<'a>
+        ensures { result ≡ text.now }
+    {
         Text {
-            text: String::new(alloc),
+            text: CowStr::Borrowed(text),
         }
     }
 
-    /// The empty text with room for a usual word.
-    pub(crate) fn with_room(alloc: Global) -> Result<Text, NoMemory>
-        ensures { IfOk result (λ made. made ≡ []) }
-    {
-        Ok(Text {
-            text: String::with_capacity(alloc, WORD_LEN)?,
-        })
-    }
-
-    /// A copy of a text.
-    pub(crate) fn of(alloc: Global, text: &str) -> Result<Text, NoMemory>
-        ensures { IfOk result (λ made. made ≡ text.now) }
-    {
-        Ok(Text {
-            text: String::from_str(alloc, text)?,
-        })
-    }
-
-    /// Takes a string over.
-    pub(crate) fn from_string(text: String) -> Text
-        ensures { result ≡ string_bytes text }
+    /// Takes over a text that is lent or owned.
+    pub(crate) fn from_cow(text: CowStr<'a>) -> Text<'a>
+        ensures { result ≡ cow_str_bytes text.entry }
     {
         Text { text }
     }
 
-    /// Puts a character behind the text.
-    #[inline]
-    pub(crate) fn push(&mut self, c: char) -> Result<(), NoMemory>
-        ensures { OnOk result (self.new ≡ self.old ++ encode_utf8 c) }
+    /// With a run of the line behind it; the first run stays lent.
+    pub(crate) fn with_run(self, alloc: Global, run: &'a str) -> Result<Text<'a>, NoMemory>
+        ensures { IfOk result (λ text. text ≡ self.entry ++ run.now) }
     {
-        self.text.push(c)?;
-        Ok(())
+        if self.is_empty() {
+            return Ok(Text::lent(run));
+        }
+        let mut text = self.text.into_owned(alloc)?;
+        text.push_str(run)?;
+        Ok(Text::from_cow(CowStr::Owned(text)))
+    }
+
+    /// With a character behind it.
+    pub(crate) fn with_char(self, alloc: Global, c: char) -> Result<Text<'a>, NoMemory>
+        ensures { IfOk result (λ text. text ≡ self.entry ++ encode_utf8 c) }
+    {
+        let mut text = self.text.into_owned(alloc)?;
+        text.push(c)?;
+        Ok(Text::from_cow(CowStr::Owned(text)))
+    }
+
+    /// The text once more.
+    pub(crate) fn try_clone(&self) -> Result<Text<'a>, NoMemory>
+        ensures { IfOk result (λ copy. copy ≡ self.now) }
+    {
+        Ok(Text {
+            text: self.text.clone()?,
+        })
     }
 
     /// The text, lent.
@@ -78,14 +88,18 @@ impl Text {
     pub(crate) fn is_empty(&self) -> bool
         ensures { result ≡ (length self.now == 0) }
     {
-        self.text.is_empty()
+        self.text.as_str().is_empty()
     }
 
-    /// The text as a string.
-    pub(crate) fn into_string(self) -> String
-        ensures { string_bytes result ≡ self }
+    /// The text as one that stays.
+    pub(crate) fn into_bytes(self, alloc: Global) -> Result<Bytes, NoMemory>
+        ensures exact { IfOk result (λ bytes. bytes ≡ self.entry) }
+        ensures utf8 { IfOk result IsUtf8 }
     {
-        self.text
+        match self.text {
+            CowStr::Borrowed(text) => Bytes::from_slice(alloc, text.as_bytes()),
+            CowStr::Owned(text) => Bytes::from_string(alloc, text),
+        }
     }
 }
 

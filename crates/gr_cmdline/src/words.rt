@@ -1,6 +1,6 @@
 // The words of a line: between blanks, or in quotes.
 ghost use Rattle.std.specs.Prelude.{◌≡◌, ◌≤◌, ◌<◌, ◌∷◌, [], IfOk, MatchOption, Ok, Some, false, length, option_map, true, ℕ};
-ghost use Rattle.gr_cmdline.specs.Reading.{ReadsEscaped, ReadsQuoted, ReadsText, ReadsWord};
+ghost use Rattle.gr_cmdline.specs.Reading.{Begins, ReadsEscaped, ReadsQuoted, ReadsText, ReadsWord};
 ghost use Rattle.gr_cmdline.specs.Words.{before, behind_quotes, escaped, in_quotes, in_word, is_blank, is_quote, rest_from, with_char, with_text, words};
 
 use crate::cursor::Cursor;
@@ -11,11 +11,11 @@ use std::alloc::Global;
 
 /// One word.
 #[derive(Drop)]
-pub(crate) struct Word {
-    /// Its text, without the quotes.
-    pub(crate) text: Text,
-    /// Whether it stood in quotes.
-    pub(crate) quoted: bool,
+pub(crate) enum Word<'a> {
+    /// It stood between blanks.
+    Plain(&'a str),
+    /// It stood in quotes, which are left out.
+    Quoted(Text<'a>),
 }
 
 /// What comes next inside quotes.
@@ -34,20 +34,18 @@ impl<'a> Cursor<'a> {
     pub(crate) fn next_word(
         &mut self,
         alloc: Global,
-    ) -> Result<Result<Option<Word>, Refused>, NoMemory>
+    ) -> Result<Result<Option<Word<'a>>, Refused<'a>>, NoMemory>
         ensures { IfOk result (λ read. ReadsWord self.old self.new read) }
     {
         let Some(first) = self.first_of_word() else {
             return Ok(Ok(None));
         };
         if is_quote(first) {
+            let _quote = self.next();
             return self.quoted_word(alloc, first);
         }
-        let text = self.in_word(alloc, first)?;
-        Ok(Ok(Some(Word {
-            text,
-            quoted: false,
-        })))
+        let text = self.in_word();
+        Ok(Ok(Some(Word::Plain(text))))
     }
 
     /// The next word, whose quote was read.
@@ -55,71 +53,75 @@ impl<'a> Cursor<'a> {
         &mut self,
         alloc: Global,
         quote: char,
-    ) -> Result<Result<Option<Word>, Refused>, NoMemory>
+    ) -> Result<Result<Option<Word<'a>>, Refused<'a>>, NoMemory>
         requires { is_quote quote ≡ true }
         ensures { IfOk result (λ read. ReadsWord (quote ∷ self.old) self.new read) }
     {
         match self.in_quotes(alloc, quote)? {
-            Ok(text) => Ok(Ok(Some(Word { text, quoted: true }))),
+            Ok(text) => Ok(Ok(Some(Word::Quoted(text)))),
             Err(refusal) => Ok(Err(refusal)),
         }
     }
 
-    /// The first character that is no blank.
+    /// Leaves out the blanks that come first; the first character behind them stays.
     fn first_of_word(&mut self) -> Option<char>
         ensures first { MatchOption result (words self.old ≡ Some [])
-            (λ c. (is_blank c ≡ false) × (words self.old ≡ words (c ∷ self.new)) × (length self.new < length self.old)) }
+            (λ c. (is_blank c ≡ false) × (words self.old ≡ words self.new) × Begins c self.new) }
+        ensures order { length self.new ≤ length self.old }
     {
         'blanks: loop {
-            let c = self.next()?;
+            let c = self.peek()?;
             if !is_blank(c) {
                 return Some(c);
             }
+            let _blank = self.next();
         }
     }
 
-    /// A word that is not in quotes, whose first character was read.
-    fn in_word(&mut self, alloc: Global, first: char) -> Result<Text, NoMemory>
-        ensures text { IfOk result (λ text. option_map (with_char first) (rest_from in_word self.old) ≡ option_map (before text) (words self.new)) }
-        ensures order { length self.new ≤ length self.old }
+    /// A word that is not in quotes, up to the next blank, which is taken.
+    fn in_word(&mut self) -> &'a str
+        ensures text { rest_from in_word self.old ≡ option_map (before result.now) (words self.new) }
+        ensures order { 0 < length self.old → length self.new < length self.old }
     {
-        let mut text = Text::with_room(alloc)?;
-        text.push(first)?;
-        'chars: loop {
-            match self.next_in_word() {
-                Some(c) => text.push(c)?,
-                None => return Ok(text),
-            }
-        }
-    }
-
-    /// The next character of a word that is not in quotes; takes the blank behind it.
-    #[inline]
-    fn next_in_word(&mut self) -> Option<char>
-        ensures next { MatchOption result (rest_from in_word self.old ≡ option_map (before []) (words self.new))
-            (λ c. (rest_from in_word self.old ≡ option_map (with_char c) (rest_from in_word self.new)) × (length self.new < length self.old)) }
-        ensures order { length self.new ≤ length self.old }
-    {
-        let c = self.next()?;
-        if is_blank(c) {
-            return None;
-        }
-        Some(c)
+        let text = self.up_to(' ', '\t');
+        let _blank = self.next();
+        text
     }
 
     /// A word in quotes, of which the first was read.
-    fn in_quotes(&mut self, alloc: Global, quote: char) -> Result<Result<Text, Refused>, NoMemory>
+    fn in_quotes(
+        &mut self,
+        alloc: Global,
+        quote: char,
+    ) -> Result<Result<Text<'a>, Refused<'a>>, NoMemory>
+        requires { quote < 128 }
         ensures text { IfOk result (λ read. ReadsText (rest_from (in_quotes quote) self.old) self.new read) }
         ensures order { length self.new ≤ length self.old }
     {
-        let mut text = Text::with_room(alloc)?;
-        'chars: loop {
+        let mut text = Text::new();
+        'runs: loop {
+            text = self.run_in_quotes(alloc, quote, text)?;
             match self.next_quoted(quote) {
-                Quoted::Char(c) => text.push(c)?,
-                Quoted::Closed => return Ok(self.behind_quotes(alloc, text)),
-                Quoted::Open => return Ok(Err(Refused::bad_line(alloc))),
+                Quoted::Char(c) => text = text.with_char(alloc, c)?,
+                Quoted::Closed => return Ok(self.behind_quotes(text)),
+                Quoted::Open => return Ok(Err(Refused::bad_line())),
             }
         }
+    }
+
+    /// A text in quotes so far, with the characters up to the next quote or backslash.
+    fn run_in_quotes(
+        &mut self,
+        alloc: Global,
+        quote: char,
+        text: Text<'a>,
+    ) -> Result<Text<'a>, NoMemory>
+        requires { quote < 128 }
+        ensures text { IfOk result (λ longer. option_map (with_text text.entry) (rest_from (in_quotes quote) self.old) ≡ option_map (with_text longer) (rest_from (in_quotes quote) self.new)) }
+        ensures order { length self.new ≤ length self.old }
+    {
+        let run = self.up_to(quote, '\\');
+        text.with_run(alloc, run)
     }
 
     /// The next character in quotes.
@@ -152,8 +154,8 @@ impl<'a> Cursor<'a> {
     }
 
     /// A word in quotes ends where a blank or the line's end follows.
-    fn behind_quotes(&mut self, alloc: Global, text: Text) -> Result<Text, Refused>
-        ensures text { ReadsText (option_map (with_text text) (rest_from behind_quotes self.old)) self.new result }
+    fn behind_quotes(&mut self, text: Text<'a>) -> Result<Text<'a>, Refused<'a>>
+        ensures text { ReadsText (option_map (with_text text.entry) (rest_from behind_quotes self.old)) self.new result }
         ensures order { length self.new ≤ length self.old }
     {
         match self.next() {
@@ -161,7 +163,7 @@ impl<'a> Cursor<'a> {
                 if is_blank(c) {
                     Ok(text)
                 } else {
-                    Err(Refused::bad_line(alloc))
+                    Err(Refused::bad_line())
                 }
             }
             None => Ok(text),

@@ -1,7 +1,7 @@
 // Words, and the arguments that they are.
 use super::{Case, Fail, first_wrong};
 
-static WORDS: [Case; 9] = [
+static WORDS: [Case; 10] = [
     Case {
         text: b"select 'a b' \"c\\\"d\" --filter 'it\\'s \\\\\\n\\t\\x'",
         want: "select table=a b match_columns=c\"d filter=it's \\\n\tx\n",
@@ -37,6 +37,10 @@ static WORDS: [Case; 9] = [
     Case {
         text: b"select T /d/x",
         want: "select table=T match_columns=/d/x\n",
+    },
+    Case {
+        text: b"select a_name_of_a_table \"some \\\"longer\\\" text\"",
+        want: "select table=a_name_of_a_table match_columns=some \"longer\" text\n",
     },
 ];
 

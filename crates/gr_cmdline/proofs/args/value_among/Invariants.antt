@@ -1,9 +1,13 @@
-use Rattle.std.proofs.Common.{◌≡◌, map, string_bytes, length}
-use Rattle.gr_cmdline.specs.Arguments.{value_of}
+use Rattle.std.proofs.Common.{◌≡◌, length}
+use Rattle.std.specs.List.{AllByRecursion}
+use Rattle.gr_cmdline.specs.Arguments.{IsText, value_of}
 use Rattle.gr_cmdline.proofs.args.value_among.Given as goal
 
 abbrev pub invariant-values : goal.invariant-values
-invariant-values l = value_of (map (λ value. (value.0, string_bytes value.1)) l.fn.given) l.param ≡ value_of (map (λ value. (value.0, string_bytes value.1)) l.rest) l.param
+invariant-values l = record {
+  found : value_of l.fn.given l.param ≡ value_of l.rest l.param;
+  texts : AllByRecursion (λ value. IsText value.1) l.rest;
+}
 
 abbrev pub decreases-values : goal.decreases-values
 decreases-values l = length l.rest

@@ -1,7 +1,7 @@
 use Rattle.std.proofs.Common.{◌≡◌, ◌∷◌, ◌∙◌, ap, option_map, sym}
 use Rattle.std.specs.Str.{chars}
 use Rattle.gr_cmdline.specs.Asked.{asked_by_line, asked_with}
-use Rattle.gr_cmdline.specs.Reading.{arguments_in}
+use Rattle.gr_cmdline.specs.Reading.{arguments_in, word_of}
 use Rattle.gr_cmdline.specs.Words.{words}
 use Rattle.gr_cmdline.proofs.Arguing.{IfOk-told, asked_by_words-first}
 use Rattle.gr_cmdline.proofs.asked.asked_by_line.Goals as goal
@@ -9,6 +9,6 @@ use Rattle.gr_cmdline.proofs.asked.asked_by_line.Goals as goal
 pub returns-in-Ok-Some : goal.returns-in-Ok-Some
 returns-in-Ok-Some c =
     let word = rw (c.in-Ok-Some.is, c.in-Ok-Some.field-0-is) at c.in_ok-word.ensures in
-    let read : words (chars c.args.line.now) ≡ option_map (λ others. c.in-Ok-Some.word ∷ others) (words c.next_word.new.self) = ap words (sym c.new-cursor.ensures) ∙ word.0 in
-    IfOk-told c.asked_with.result (asked_with c.in-Ok-Some.word.text (arguments_in c.next_word.new.self)) (asked_by_line c.args.line.now)
-    (sym (asked_by_words-first c.in-Ok-Some.word (chars c.args.line.now) c.next_word.new.self read)) c.asked_with.ensures
+    let read : words (chars c.args.line.now) ≡ option_map (λ others. word_of c.in-Ok-Some.word ∷ others) (words c.next_word.new.self) = ap words (sym c.new-cursor.ensures) ∙ word.0 in
+    IfOk-told c.asked_with.result (asked_with (word_of c.in-Ok-Some.word).text (arguments_in c.next_word.new.self)) (asked_by_line c.args.line.now)
+    (sym (asked_by_words-first (word_of c.in-Ok-Some.word) (chars c.args.line.now) c.next_word.new.self read)) (rw c.into_text.ensures at c.asked_with.ensures)

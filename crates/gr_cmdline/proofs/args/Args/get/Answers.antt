@@ -1,17 +1,17 @@
-use Rattle.std.proofs.Common.{◌∙◌, ap, map, option_map, string_bytes}
-use Rattle.gr_cmdline.specs.Arguments.{Arguments, data_value, value_of}
-use Rattle.gr_cmdline.proofs.Giving.{shown, value_of-first, value_of-second}
+use Rattle.std.proofs.Common.{◌∙◌, ap, string_bytes}
+use Rattle.gr_cmdline.specs.Arguments.{Arguments, data_value, given_text, value_of}
+use Rattle.gr_cmdline.proofs.Giving.{value_of-first, value_of-second}
 use Rattle.gr_cmdline.proofs.args.Args.get.Goals as goal
 
 pub returns-in-Some : goal.returns-in-Some
 returns-in-Some c =
-    value_of-first (map shown c.self.inside.given.items) (data_value (option_map string_bytes c.self.inside.loaded)) c.args.param c.in-Some.value.now
-    (c.in-Some.ensures ∙ ap (λ items. value_of (map shown items) c.args.param) c.as_slice.ensures.value)
+    value_of-first c.self.inside.given.items (data_value (given_text (string_bytes c.self.inside.loaded))) c.args.param c.in-Some.value.now
+    (c.in-Some.ensures ∙ ap (λ items. value_of items c.args.param) c.as_slice.ensures.value)
     ∙ ap (λ (args : Arguments). value_of args.given c.args.param) c.self.view_is
 
 pub returns-in-None : goal.returns-in-None
 returns-in-None c =
-    c.data_as.ensures
-    ∙ value_of-second (map shown c.self.inside.given.items) (data_value (option_map string_bytes c.self.inside.loaded)) c.args.param
-    (c.in-None.ensures ∙ ap (λ items. value_of (map shown items) c.args.param) c.as_slice.ensures.value)
+    c.data_as.ensures ∙ ap (λ text. value_of (data_value (given_text text)) c.args.param) c.as_str.ensures.value
+    ∙ value_of-second c.self.inside.given.items (data_value (given_text (string_bytes c.self.inside.loaded))) c.args.param
+    (c.in-None.ensures ∙ ap (λ items. value_of items c.args.param) c.as_slice.ensures.value)
     ∙ ap (λ (args : Arguments). value_of args.given c.args.param) c.self.view_is

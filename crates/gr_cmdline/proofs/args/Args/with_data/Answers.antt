@@ -1,12 +1,15 @@
-use Rattle.std.proofs.Common.{◌≡◌, ◌++◌, ◌∷◌, [], ◌∙◌, ap, false, map, option_map, string_bytes, sym}
-use Rattle.gr_cmdline.specs.Arguments.{Arguments, data_value, is_given}
+use Rattle.std.proofs.Common.{◌≡◌, ◌++◌, ◌∷◌, [], ◌∙◌, ap, false, string_bytes, sym}
+use Rattle.gr_cmdline.specs.Arguments.{Arguments, data_value, given_text, is_given}
 use Rattle.gr_cmdline.specs.declared.param.Param.TheVariants.{Values}
-use Rattle.gr_cmdline.proofs.Giving.{not_loaded, shown}
+use Rattle.gr_cmdline.proofs.Giving.{given_text-filled, not_loaded}
 use Rattle.gr_cmdline.proofs.args.Args.with_data.Goals as goal
 
 pub returns : goal.returns
 returns c =
-    let none : is_given (map shown c.self.inside.given.items ++ data_value (option_map string_bytes c.self.inside.loaded)) Values ≡ false = ap (λ (args : Arguments). is_given args.given Values) c.self.view_is ∙ c.requires.none in
-    let same = not_loaded (map shown c.self.inside.given.items) (option_map string_bytes c.self.inside.loaded) none in
-    ap (λ given. record { suffix = option_map string_bytes c.self.inside.suffix; given = given ++ (Values, string_bytes c.args.text) ∷ [] }) (sym same)
+    let given = c.self.inside.given.items in
+    let suffix = given_text c.self.inside.suffix in
+    let loaded = given_text (string_bytes c.self.inside.loaded) in
+    let none : is_given (given ++ data_value loaded) Values ≡ false = ap (λ (args : Arguments). is_given args.given Values) c.self.view_is ∙ c.requires.none in
+    ap (λ text. record { suffix = suffix; given = given ++ data_value text }) (given_text-filled (string_bytes c.args.text) c.requires.filled)
+    ∙ ap (λ given. record { suffix = suffix; given = given ++ (Values, string_bytes c.args.text) ∷ [] }) (sym (not_loaded given loaded none))
     ∙ ap (λ (args : Arguments). record { suffix = args.suffix; given = args.given ++ (Values, string_bytes c.args.text) ∷ [] }) c.self.view_is

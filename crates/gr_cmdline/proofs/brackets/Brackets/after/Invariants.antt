@@ -1,9 +1,12 @@
-use Rattle.std.proofs.Common.{◌≡◌, ◌+◌, ◌≤◌, fold, take}
+use Rattle.std.proofs.Common.{◌≡◌, ◌+◌, ◌≤◌, fold, length}
 use Rattle.gr_cmdline.specs.LoadData.{after_byte}
 use Rattle.gr_cmdline.proofs.brackets.Brackets.after.Given as goal
 
-abbrev pub invariant-loop-c : goal.invariant-loop-c
-invariant-loop-c l = record {
-  exact : l.count ≡ fold after_byte l.fn.self (take l.c-index l.bytes);
-  bound : l.count.depth ≤ l.fn.self.depth + l.c-index;
+abbrev pub invariant-marks : goal.invariant-marks
+invariant-marks l = record {
+  exact : fold after_byte l.fn.self l.fn.bytes ≡ fold after_byte l.count l.rest;
+  bound : l.count.depth + length l.rest ≤ l.fn.self.depth + length l.fn.bytes;
 }
+
+abbrev pub decreases-marks : goal.decreases-marks
+decreases-marks l = length l.rest
