@@ -1,5 +1,5 @@
 -- Queries, and what begins one, are what the reader goes through.
-use Rattle.std.proofs.Common.{◌≡◌, ℕ, suc, List, [], ◌∷◌, ◌++◌, append-nil, Some, None, refl, sym, ◌∙◌, ap, subst}
+use Rattle.std.proofs.Common.{◌≡◌, ℕ, suc, List, [], ◌∷◌, ◌++◌, append-nil, Some, refl, sym, ◌∙◌, ap, subst}
 use Rattle.gr_expr.specs.declared.ast.Ast.{Ast}
 use Rattle.gr_expr.specs.declared.ast.Ast.TheVariants as ast
 use Rattle.gr_expr.specs.declared.ast.Joined.{Joined}
@@ -15,6 +15,7 @@ use Rattle.gr_query.proofs.Steps.{Ends, at_end, at_close, Completes, Starts, Goe
 use Rattle.gr_text.proofs.Grammar.{IsGoing, end_of}
 use Rattle.gr_text.specs.Reading.{Outcome, goes, deep, wrong, run}
 use Rattle.gr_text.specs.Sentences.{Begins}
+use Rattle.gr_text.proofs.Cases.{some_is, none_is}
 
 -- what finishes the query with these tokens first finishes it behind them
 run_to : (w : Ast) (ts more : List Lexeme) (o : Outcome State) → GoesOn w o (ts ++ more) → GoesOn w (run step_of o ts) more
@@ -28,12 +29,6 @@ run_from w [] more o m = m
 run_from w (t ∷ ts) more (goes (state phase frames levels)) m = step_from w phase frames levels t (ts ++ more) (run_from w ts more (step phase frames levels t) m)
 run_from w (t ∷ ts) more deep m = m
 run_from w (t ∷ ts) more wrong m = m
-
-some_is : {a b : Ast} → Some a ≡ Some b → a ≡ b
-some_is h = cc
-
-none_is : {a : Ast} → None ≡ Some a → ⊥
-none_is h = cc
 
 no_unit : {levels : ℕ} {tree : Ast} {at : ℕ} {rest : List Lexeme} → ReadsUnit levels [] tree at rest → ⊥
 no_unit u = elim u [ ]

@@ -1,5 +1,5 @@
 -- A step of the reader goes exactly where the grammar goes on.
-use Rattle.std.proofs.Common.{◌≡◌, ℕ, zero, suc, List, [], ◌∷◌, append_assoc, append-nil, Some, None, refl, sym, ap, subst}
+use Rattle.std.proofs.Common.{◌≡◌, ℕ, zero, suc, List, [], ◌∷◌, append_assoc, append-nil, Some, refl, sym, ap, subst}
 use Rattle.gr_expr.specs.declared.ast.Ast.{Ast}
 use Rattle.gr_expr.specs.declared.ast.Ast.TheVariants as ast
 use Rattle.gr_expr.specs.declared.ast.Join.{Join}
@@ -15,6 +15,7 @@ use Rattle.gr_query.specs.Machine.{Phase, Begin, Want, Have, State, state, place
 use Rattle.gr_query.specs.Rows.{link, alone, with_links, tree_of}
 use Rattle.gr_query.specs.Token.{Lexeme}
 use Rattle.gr_text.specs.Reading.{Outcome, goes, deep, wrong}
+use Rattle.gr_text.proofs.Cases.{some_is, none_is}
 
 -- Behind a row that is whole, in these open brackets, the tokens finish a query of the whole tree.
 pub data Ends (w : Ast) : List Before → ℕ → Row → List Lexeme → Type 0 where
@@ -110,12 +111,6 @@ units {w} {frames} {levels} row first c = subst (λ of. Ends w frames levels of 
 closed : {w : Ast} {frames : List Before} {levels : ℕ} {t : Lexeme} {us : List Lexeme} {row : Row} → Ends w frames levels row (t ∷ us) → GoesOn w (follow_on row frames levels t.at t.token) us
 closed {w} {levels = levels} {t = t} {us = us} {row = row} (at_close {before = before} {frames = frames} e k ends) =
     subst (λ token. GoesOn w (follow_on row (before ∷ frames) levels t.at token) us) (sym e) (record { links = _; rest = _; follows = k; ends = ends })
-
-some_is : {a b : Join} → Some a ≡ Some b → a ≡ b
-some_is h = cc
-
-none_is : {a : Join} → None ≡ Some a → ⊥
-none_is h = cc
 
 module _ (w : Ast) (frames : List Before) (levels : ℕ) (t : Lexeme) (us : List Lexeme) where
   first_to : {first : Row} {rest : List Lexeme} → ReadsFirst levels (t ∷ us) first rest → Completes w frames levels first rest → GoesOn w (first_on frames levels t.at t.token) us

@@ -1,13 +1,14 @@
 -- The columns of texts whose numbers are weights are well made.
 use Rattle.std.proofs.Common.{◌≡◌, ◌≤◌, ℕ, Bool, true, false, cond, Option, Some, None, List, refl, sym, subst, arith}
-use Rattle.std.specs.Prelude.{min, nat_le, not, ◌&&◌, IsUtf8}
+use Rattle.std.specs.Prelude.{is_some, min, nat_le, not, ◌&&◌, IsUtf8}
 use Rattle.std.proofs.lemmas.Bool.{leb-true}
 use Rattle.gr_script.specs.declared.column.MatchColumn.{MatchColumn}
 use Rattle.gr_script.specs.declared.token.Token.{Token}
 use Rattle.gr_script.specs.declared.token.Token.TheVariants.{Symbol as symbol, Digits as digits, Text as text, Path as path}
-use Rattle.gr_script.specs.Columns.{column_word, weight_of, is_reserved, Columns, a_column, Weighing, no_weight, a_weight, Further, no_column, another, is_no_weight, IsMadeColumn, AreMadeColumns}
+use Rattle.gr_script.specs.Columns.{column_word, weight_of, Columns, a_column, Weighing, no_weight, a_weight, Further, no_column, another, is_no_weight, IsMadeColumn, AreMadeColumns}
 use Rattle.gr_script.specs.Token.{IsText, Lexeme}
-use Rattle.gr_script.proofs.Cases.{some_is, none_is, false_is}
+use Rattle.gr_script.specs.Words.{reserved}
+use Rattle.gr_text.proofs.Cases.{some_is, none_is, false_is}
 use Rattle.gr_text.specs.Reading.{AreText, first_where}
 
 -- a word that is a column's path is text
@@ -15,7 +16,7 @@ word_text : (token : Token) (word : List ℕ) → column_word token ≡ Some wor
 word_text (symbol mark) word e h = absurd (none_is e)
 word_text (digits n) word e h = absurd (none_is e)
 word_text (text bytes) word e h = absurd (none_is e)
-word_text (path name) word e h = go (is_reserved name) e
+word_text (path name) word e h = go (is_some (reserved name)) e
   where
     go : (b : Bool) → cond b None (Some name) ≡ Some word → IsUtf8 word
     go true e = absurd (none_is e)

@@ -1,4 +1,3 @@
-pub mod Cases
 pub mod Climb
 pub mod Taken
 pub mod Begun

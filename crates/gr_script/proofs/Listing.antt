@@ -9,7 +9,7 @@ use Rattle.gr_script.specs.ColumnSteps.{State, state, path_read, weight_read, jo
 use Rattle.gr_script.specs.declared.token.Token.{Token}
 use Rattle.gr_script.specs.declared.token.Token.TheVariants.{Symbol as symbol, Digits as digits, Path as path}
 use Rattle.gr_script.specs.Token.{Lexeme}
-use Rattle.gr_script.proofs.Cases.{some_is, none_is, false_is}
+use Rattle.gr_text.proofs.Cases.{some_is, none_is, false_is}
 use Rattle.gr_text.specs.Reading.{Outcome, goes, deep, wrong, run}
 use Rattle.gr_text.specs.Sentences.{Begins}
 use Rattle.gr_text.proofs.Grammar.{IsGoing, end_of, Raises}

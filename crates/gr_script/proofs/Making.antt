@@ -1,8 +1,7 @@
 -- The trees that the grammar makes of texts are well made.
-use Rattle.std.proofs.Common.{◌≡◌, ℕ, Bool, true, false, cond, List, [], ◌∷◌, length, map, codes, IsUtf8, refl, ap, subst}
+use Rattle.std.proofs.Common.{◌≡◌, ℕ, Bool, true, List, [], ◌∷◌, length, map, IsUtf8, refl, ap, subst}
 use Rattle.std.proofs.lemmas.Bool.{eqb-true, leb-true}
-use Rattle.std.specs.Prelude.{unwrap_or}
-use Rattle.std.specs.Str.{bytes_eq}
+use Rattle.std.specs.Prelude.{unwrap_or, Option, Some, None}
 use Rattle.gr_expr.specs.declared.ast.Arith.{Arith}
 use Rattle.gr_expr.specs.declared.ast.Ast.{Ast, every_made-Ast}
 use Rattle.gr_expr.specs.declared.ast.Ast.TheOpen.{Ast-F}
@@ -14,6 +13,8 @@ use Rattle.gr_expr.specs.declared.ast.Join.{Join}
 use Rattle.gr_expr.specs.declared.ast.Joined.{Joined, every-Joined, every_made-Joined}
 use Rattle.gr_script.specs.declared.grammar.Call.{Call}
 use Rattle.gr_script.specs.declared.grammar.Call.TheVariants.{Between, InValues}
+use Rattle.gr_script.specs.declared.grammar.Reserved.{Reserved}
+use Rattle.gr_script.specs.declared.grammar.Reserved.TheVariants.{Truth, Called}
 use Rattle.gr_script.specs.declared.grammar.Sign.{Sign}
 use Rattle.gr_script.specs.declared.grammar.Sign.TheVariants as sign
 use Rattle.gr_script.specs.declared.grammar.ConditionLine.{ConditionLine}
@@ -26,7 +27,7 @@ use Rattle.gr_script.specs.Grammar.{Part, Reads, a_chain, a_number, a_test, a_ca
 use Rattle.gr_script.specs.declared.token.Token.{Token}
 use Rattle.gr_script.specs.declared.token.Token.TheVariants.{Symbol as symbol, Digits as digits, Text as text, Path as path}
 use Rattle.gr_script.specs.Token.{IsText, Lexeme}
-use Rattle.gr_script.specs.Words.{greatest, word_at, start_with, start_at}
+use Rattle.gr_script.specs.Words.{greatest, reserved, start_by, word_at, start_with, start_at}
 use Rattle.gr_script.specs.Made.{IsMadeLayer, AnyLink, AnyTerm, IsMade}
 use Rattle.gr_text.specs.Reading.{AreText}
 use Rattle.gr_script.specs.Trees.{place_of, link, term, chain, calculation, tested, signed, called, takes}
@@ -94,16 +95,13 @@ abbrev MadeStart : Start → Type 0
 MadeStart (start.Leaf tree) = IsMade tree
 MadeStart _ = Unit {0}
 
-made_either : (b : Bool) (x y : Start) → MadeStart x → MadeStart y → MadeStart (cond b x y)
-made_either true x y m n = m
-made_either false x y m n = n
-
 made_word : (at : ℕ) (word : List ℕ) → IsUtf8 word → MadeStart (word_at at word)
-made_word at word h =
-    made_either (bytes_eq word (codes "true")) (start.Leaf (ast.Truth at true)) _ (made_truth at true)
-    (made_either (bytes_eq word (codes "false")) (start.Leaf (ast.Truth at false)) _ (made_truth at false)
-    (made_either (bytes_eq word (codes "between")) (start.Called Between) _ tt
-    (made_either (bytes_eq word (codes "in_values")) (start.Called InValues) (start.Leaf (ast.Path at word)) tt (made_path at word h))))
+made_word at word h = go (reserved word)
+  where
+    go : (meaning : Option Reserved) → MadeStart (start_by at word meaning)
+    go None = made_path at word h
+    go (Some (Truth value)) = made_truth at value
+    go (Some (Called call)) = tt
 
 made_mark : (mark : Symbol) → MadeStart (start_with mark)
 made_mark s.Open = tt

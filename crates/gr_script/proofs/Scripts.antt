@@ -5,7 +5,7 @@ use Rattle.gr_script.specs.declared.frame.Frame.{Frame}
 use Rattle.gr_script.specs.Grammar.{Part, operand, script, Reads, Arguments, no_argument, an_argument, Sentence}
 use Rattle.gr_script.specs.Machine.{begin, reduced, step, whole, finished, Phase, Want, Opening, Have, State, state, step_of, finished_of}
 use Rattle.gr_script.specs.Token.{Lexeme}
-use Rattle.gr_script.proofs.Cases.{some_is, none_is, empty_is}
+use Rattle.gr_text.proofs.Cases.{some_is, none_is, empty_is}
 use Rattle.gr_script.proofs.Climb.{tightness_above, Climbs, still, split, merge}
 use Rattle.gr_script.proofs.Closing.{IsStack, Rests, reducing, reduces_to, reduces_from}
 use Rattle.gr_script.proofs.Going.{ending, Stacked, step_stacked, run_stacked}

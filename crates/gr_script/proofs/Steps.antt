@@ -24,7 +24,7 @@ use Rattle.gr_script.specs.Machine.{tightness, number_tightness, pull, Held, red
 use Rattle.gr_script.specs.Token.{Lexeme}
 use Rattle.gr_script.specs.Trees.{called, takes}
 use Rattle.gr_script.specs.Words.{start_of, after_of, opens}
-use Rattle.gr_script.proofs.Cases.{false_is, head_is, tail_is, empty_is}
+use Rattle.gr_text.proofs.Cases.{false_is, head_is, tail_is, empty_is}
 use Rattle.gr_script.proofs.Climb.{rank, tightness_below, tightness_above, here, still, split, merge, rank-of_numbers}
 use Rattle.gr_script.proofs.Taken.{free}
 use Rattle.gr_script.proofs.Begun.{hole, Completes, at_bottom, in_chain, in_test, in_calculation, in_sign, in_group, in_call, Wants}

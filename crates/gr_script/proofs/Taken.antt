@@ -17,7 +17,7 @@ use Rattle.gr_script.specs.Machine.{tightness, number_tightness, pull}
 use Rattle.gr_script.specs.Token.{Lexeme}
 use Rattle.gr_script.specs.Trees.{chain, calculation, tested, link, term}
 use Rattle.gr_script.specs.Words.{after_of}
-use Rattle.gr_script.proofs.Cases.{head_is, tail_is}
+use Rattle.gr_text.proofs.Cases.{head_is, tail_is}
 use Rattle.gr_script.proofs.Climb.{rank, pull_of, tightness_below, tightness_above, Climbs, here, chained, numbered, compared, calculated, no_links, no_terms, still}
 
 module _ (levels : ℕ) (x : Ast) (ts : List Lexeme) where

@@ -1,6 +1,5 @@
 -- The grammar of match columns, and what the tokens of a text are by it.
-use Rattle.std.specs.Prelude.{◌≡◌, ◌≤◌, ℕ, Bool, true, false, ◌&&◌, ◌||◌, nat_le, min, not, unwrap_or, codes, if◌then◌else◌, Option, Some, None, List, [], ◌∷◌, IsUtf8}
-use Rattle.std.specs.Str.{bytes_eq}
+use Rattle.std.specs.Prelude.{◌≡◌, ◌≤◌, ℕ, Bool, true, false, ◌&&◌, nat_le, min, not, unwrap_or, is_some, if◌then◌else◌, Option, Some, None, List, [], ◌∷◌, IsUtf8}
 use Rattle.gr_base.specs.declared.fault.FaultKind.{FaultKind}
 use Rattle.gr_base.specs.declared.fault.FaultKind.TheVariants.{BadScript}
 use Rattle.gr_script.specs.declared.column.MatchColumn.{MatchColumn}
@@ -8,21 +7,17 @@ use Rattle.gr_script.specs.declared.token.Symbol.TheVariants as s
 use Rattle.gr_script.specs.declared.token.Token.{Token}
 use Rattle.gr_script.specs.declared.token.Token.TheVariants.{Symbol as symbol, Digits as digits, Text as text, Path as path}
 use Rattle.gr_script.specs.Token.{Lexeme}
-use Rattle.gr_script.specs.Words.{greatest}
+use Rattle.gr_script.specs.Words.{greatest, reserved}
 use Rattle.gr_text.specs.Cut.{Cut}
 use Rattle.gr_text.specs.declared.fault.TextFault.{TextFault}
 use Rattle.gr_text.specs.Sentences as of_grammar
-
--- a truth or a call's name, which is no path by itself
-abbrev pub is_reserved : List ℕ → Bool
-is_reserved word = bytes_eq word (codes "true") || bytes_eq word (codes "false") || bytes_eq word (codes "between") || bytes_eq word (codes "in_values")
 
 -- a column's path
 abbrev pub column_word : Token → Option (List ℕ)
 column_word (symbol mark) = None
 column_word (digits n) = None
 column_word (text bytes) = None
-column_word (path word) = if is_reserved word then None else Some word
+column_word (path word) = if is_some (reserved word) then None else Some word
 
 -- A weight. One above the greatest of 32 bits stands as that one: no text that has one has columns.
 abbrev pub weight_of : Token → Option ℕ

@@ -1,5 +1,5 @@
 -- What the grammar asks of a token: what an operand may begin with, and what may follow one.
-use Rattle.std.specs.Prelude.{ℕ, Bool, true, false, List, None, unwrap_or, codes, if◌then◌else◌}
+use Rattle.std.specs.Prelude.{ℕ, Bool, true, false, List, Option, Some, None, unwrap_or, codes, if◌then◌else◌}
 use Rattle.std.specs.Str.{bytes_eq}
 use Rattle.gr_base.specs.declared.compare.Cmp.TheVariants as cmp
 use Rattle.gr_expr.specs.declared.ast.Ast.TheVariants as ast
@@ -12,6 +12,8 @@ use Rattle.gr_script.specs.declared.grammar.After.TheVariants as after
 use Rattle.gr_script.specs.declared.grammar.Call.TheVariants.{Between, InValues}
 use Rattle.gr_script.specs.declared.grammar.ConditionLine.TheVariants.{Any, All}
 use Rattle.gr_script.specs.declared.grammar.NumberLine.TheVariants.{Sum, Product}
+use Rattle.gr_script.specs.declared.grammar.Reserved.{Reserved}
+use Rattle.gr_script.specs.declared.grammar.Reserved.TheVariants.{Truth, Called}
 use Rattle.gr_script.specs.declared.grammar.Sign.TheVariants as sign
 use Rattle.gr_script.specs.declared.grammar.Start.{Start}
 use Rattle.gr_script.specs.declared.grammar.Start.TheVariants as start
@@ -25,14 +27,24 @@ use Rattle.gr_script.specs.Token.{Lexeme}
 abbrev pub greatest : ℕ
 greatest = 18446744073709551615
 
+-- what a word means that is no path by itself: a truth, or a call's name
+abbrev pub reserved : List ℕ → Option Reserved
+reserved word =
+    if bytes_eq word (codes "true") then Some (Truth true)
+    else (if bytes_eq word (codes "false") then Some (Truth false)
+    else (if bytes_eq word (codes "between") then Some (Called Between)
+    else (if bytes_eq word (codes "in_values") then Some (Called InValues)
+    else None)))
+
+-- what an operand that begins with a word is, by what the word means
+abbrev pub start_by : ℕ → List ℕ → Option Reserved → Start
+start_by at word None = start.Leaf (ast.Path at word)
+start_by at word (Some (Truth value)) = start.Leaf (ast.Truth at value)
+start_by at word (Some (Called call)) = start.Called call
+
 -- A word without a quote: a truth, a call's name, or a path.
 abbrev pub word_at : ℕ → List ℕ → Start
-word_at at word =
-    if bytes_eq word (codes "true") then start.Leaf (ast.Truth at true)
-    else (if bytes_eq word (codes "false") then start.Leaf (ast.Truth at false)
-    else (if bytes_eq word (codes "between") then start.Called Between
-    else (if bytes_eq word (codes "in_values") then start.Called InValues
-    else start.Leaf (ast.Path at word))))
+word_at at word = start_by at word (reserved word)
 
 -- what an operand that begins with this mark is
 abbrev pub start_with : Symbol → Start

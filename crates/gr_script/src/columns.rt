@@ -1,12 +1,13 @@
 // How match columns are read from the left in one pass: a step for each token.
 ghost use Rattle.std.specs.Prelude.{◌≡◌, List, Some};
 ghost use Rattle.gr_script.specs.declared.column.MatchColumn.{MatchColumn as Column};
-ghost use Rattle.gr_script.specs.Columns.{column_word, weight_of, is_star, is_or, is_reserved};
+ghost use Rattle.gr_script.specs.Columns.{column_word, weight_of, is_star, is_or};
 ghost use Rattle.gr_script.specs.ColumnSteps.{Steps, column_step, path_read, weight_read, joined};
 ghost use Rattle.gr_text.specs.Lexing.{placed};
 
 use crate::column::{MatchColumn, Place};
 use crate::token::{Symbol, Token};
+use crate::words::reserved;
 use gr_text::{Lexeme, Stop};
 
 /// The next token.
@@ -38,7 +39,7 @@ fn path_read(lexeme: Lexeme<Token>) -> Result<Place, Stop>
     let Lexeme { at, token } = lexeme;
     match token {
         Token::Path(path) => {
-            if is_reserved(path.as_slice()) {
+            if reserved(path.as_slice()).is_some() {
                 Err(Stop::Wrong)
             } else {
                 Ok(Place::Behind(MatchColumn {
@@ -50,16 +51,6 @@ fn path_read(lexeme: Lexeme<Token>) -> Result<Place, Stop>
         }
         _ => Err(Stop::Wrong),
     }
-}
-
-/// A truth or a call's name, which is no path by itself.
-fn is_reserved(word: &[u8]) -> bool
-    ensures { result ≡ is_reserved word.now }
-{
-    word == b"true".as_slice()
-        || word == b"false".as_slice()
-        || word == b"between".as_slice()
-        || word == b"in_values".as_slice()
 }
 
 /// A column's weight.

@@ -67,6 +67,15 @@ pub(crate) enum Call {
     InValues,
 }
 
+/// What a word means that is no path by itself.
+#[derive(Clone, Copy)]
+pub(crate) enum Reserved {
+    /// `true` or `false`.
+    Truth(bool),
+    /// A call's name.
+    Called(Call),
+}
+
 /// What an operand may begin with.
 #[derive(Drop)]
 pub(crate) enum Start {

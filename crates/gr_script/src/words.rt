@@ -1,9 +1,9 @@
 // What an operand that begins with a token is, and what a token is behind one.
 ghost use Rattle.std.specs.Prelude.{◌≡◌};
 ghost use Rattle.gr_text.specs.Lexing.{placed};
-ghost use Rattle.gr_script.specs.Words.{after_by, after_mark, is_large, opens, start_of, start_with, word_at};
+ghost use Rattle.gr_script.specs.Words.{after_by, after_mark, is_large, opens, reserved, start_of, start_with, word_at};
 
-use crate::grammar::{After, Call, ConditionLine, NumberLine, Sign, Start};
+use crate::grammar::{After, Call, ConditionLine, NumberLine, Reserved, Sign, Start};
 use crate::token::{Symbol, Token};
 use gr_base::{Bytes, Cmp};
 use gr_expr::{Arith, Ast, FieldOp, Join, Seek};
@@ -41,17 +41,27 @@ fn start_with(symbol: Symbol) -> Start
 fn word_at(at: u64, text: Bytes) -> Start
     ensures { result ≡ word_at at text }
 {
-    let word = text.as_slice();
+    match reserved(text.as_slice()) {
+        Some(Reserved::Truth(value)) => Start::Leaf(Ast::Truth { at, value }),
+        Some(Reserved::Called(call)) => Start::Called(call),
+        None => Start::Leaf(Ast::Path { at, text }),
+    }
+}
+
+/// What a word means that is no path by itself.
+pub(crate) fn reserved(word: &[u8]) -> Option<Reserved>
+    ensures { result ≡ reserved word.now }
+{
     if word == b"true".as_slice() {
-        Start::Leaf(Ast::Truth { at, value: true })
+        Some(Reserved::Truth(true))
     } else if word == b"false".as_slice() {
-        Start::Leaf(Ast::Truth { at, value: false })
+        Some(Reserved::Truth(false))
     } else if word == b"between".as_slice() {
-        Start::Called(Call::Between)
+        Some(Reserved::Called(Call::Between))
     } else if word == b"in_values".as_slice() {
-        Start::Called(Call::InValues)
+        Some(Reserved::Called(Call::InValues))
     } else {
-        Start::Leaf(Ast::Path { at, text })
+        None
     }
 }
 

@@ -7,6 +7,7 @@ use Rattle.gr_text.specs.Sentences.{IsSentence, Begins, IsRead, IsRefused, no_se
 use Rattle.gr_text.specs.Wrong.{unexpected, deep as too_deep, strange, unfinished, most_levels, wrong_kind}
 use Rattle.gr_text.specs.declared.fault.TextFault.{TextFault}
 use Rattle.gr_text.specs.declared.fault.TextFault.TheVariants.{Refused, NoMemory}
+use Rattle.gr_text.proofs.Cases.{some_is, none_is}
 use Rattle.gr_text.proofs.OneFault.{one_place, no_fault}
 use Rattle.gr_text.proofs.Turning.{run-append}
 
@@ -36,12 +37,6 @@ pub record Fits {T S X : Type 0} (step : S → Placed T → Outcome S) (end : S 
   pub sentence_from : (levels : ℕ) (ts : List (Placed T)) (tree : X) → end_of end (run step (goes (begin levels)) ts) ≡ Some tree → Sentence levels ts tree
   pub begin_raised : (levels : ℕ) → begin (suc levels) ≡ raise (begin levels)
   pub step_raised : (state : S) (t : Placed T) → Raises raise (step state t) (step (raise state) t)
-
-some_is : {X : Type 0} {x y : X} → Some x ≡ Some y → x ≡ y
-some_is e = cc
-
-none_is : {X : Type 0} {x : X} → None ≡ Some x → ⊥
-none_is e = cc
 
 module _ {T S X : Type 0} {step : S → Placed T → Outcome S} {end : S → Option X} {begin : ℕ → S} {raise : S → S} {Sentence : ℕ → List (Placed T) → X → Type 0} (fits : Fits step end begin raise Sentence) where
   abbrev from_levels : ℕ → List (Placed T) → Outcome S

@@ -5,6 +5,7 @@ pub mod Names
 pub mod Utf8
 pub mod Cuts
 pub mod Next
+pub mod Cases
 pub mod OneFault
 pub mod Turning
 pub mod Grammar

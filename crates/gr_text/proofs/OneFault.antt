@@ -1,6 +1,7 @@
 -- A text is wrong first at one place. This holds of every grammar, since what begins a sentence is closed under prefixes.
-use Rattle.std.proofs.Common.{◌≡◌, ℕ, Bool, List, [], ◌∷◌, ◌++◌, append_assoc, Some, None, refl, sym, ◌∙◌, ap, subst}
+use Rattle.std.proofs.Common.{◌≡◌, ℕ, Bool, List, [], ◌∷◌, ◌++◌, append_assoc, None, refl, sym, ◌∙◌, ap, subst}
 use mathlib.Core.Path.{ap₂}
+use Rattle.gr_text.proofs.Cases.{some_is, none_is, head_is, tail_is}
 use Rattle.gr_text.specs.Cut.{Placed, Cut}
 use Rattle.gr_text.specs.Wrong.{Follows, IsWrong, unexpected, deep, strange, unfinished, most_levels}
 
@@ -10,28 +11,16 @@ data Parted {X : Type 0} (before : List X) (t : X) (other : List X) (u : X) : Ty
   first : (ys : List X) → other ≡ (before ++ (t ∷ [])) ++ ys → Parted before t other u
   second : (ys : List X) → before ≡ (other ++ (u ∷ [])) ++ ys → Parted before t other u
 
-head_of : {X : Type 0} {x y : X} {xs ys : List X} → x ∷ xs ≡ y ∷ ys → x ≡ y
-head_of e = cc
-
-tail_of : {X : Type 0} {x y : X} {xs ys : List X} → x ∷ xs ≡ y ∷ ys → xs ≡ ys
-tail_of e = cc
-
 parted : {X : Type 0} (before : List X) (t : X) (ts other : List X) (u : X) (us : List X) → before ++ (t ∷ ts) ≡ other ++ (u ∷ us) → Parted before t other u
-parted [] t ts [] u us e = same refl (head_of e)
-parted [] t ts (o ∷ other) u us e = first other (ap (λ x. x ∷ other) (sym (head_of e)))
-parted (b ∷ before) t ts [] u us e = second before (ap (λ x. x ∷ before) (head_of e))
-parted {X} (b ∷ before) t ts (o ∷ other) u us e = longer (parted before t ts other u us (tail_of e))
+parted [] t ts [] u us e = same refl (head_is e)
+parted [] t ts (o ∷ other) u us e = first other (ap (λ x. x ∷ other) (sym (head_is e)))
+parted (b ∷ before) t ts [] u us e = second before (ap (λ x. x ∷ before) (head_is e))
+parted {X} (b ∷ before) t ts (o ∷ other) u us e = longer (parted before t ts other u us (tail_is e))
   where
     longer : Parted before t other u → Parted (b ∷ before) t (o ∷ other) u
-    longer (same p q) = same (ap₂ (λ x xs. x ∷ xs) (head_of e) p) q
-    longer (first ys p) = first ys (ap₂ (λ x xs. x ∷ xs) (sym (head_of e)) p)
-    longer (second ys p) = second ys (ap₂ (λ x xs. x ∷ xs) (head_of e) p)
-
-some_is : {X : Type 0} {x y : X} → Some x ≡ Some y → x ≡ y
-some_is e = cc
-
-none_is : {X : Type 0} {x : X} → None ≡ Some x → ⊥
-none_is e = cc
+    longer (same p q) = same (ap₂ (λ x xs. x ∷ xs) (head_is e) p) q
+    longer (first ys p) = first ys (ap₂ (λ x xs. x ∷ xs) (sym (head_is e)) p)
+    longer (second ys p) = second ys (ap₂ (λ x xs. x ∷ xs) (head_is e) p)
 
 module _ {T : Type 0} (Begins IsSentence : ℕ → List (Placed T) → Type 0) (shorter : (levels : ℕ) (xs ys : List (Placed T)) → Begins levels (xs ++ ys) → Begins levels xs) where
   -- the tokens up to and with this one begin no sentence, though those before it do
