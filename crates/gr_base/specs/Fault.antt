@@ -1,6 +1,7 @@
 -- Faults: their codes, their names, and the text that a reply shows.
 use Rattle.std.specs.Prelude.{ℕ, List, [], ◌∷◌, ◌++◌, Option, Some, None, codes}
 use Rattle.std.specs.Fmt.{decimal}
+use Rattle.std.specs.Str.{byte}
 use Rattle.gr_base.specs.declared.fault.Fault.{Fault}
 use Rattle.gr_base.specs.declared.fault.FaultKind.{FaultKind}
 use Rattle.gr_base.specs.declared.fault.FaultKind.TheVariants.{LineTooLong, NotText, BadLine, UnknownCommand, UnknownArgument, RepeatedArgument, MissingArgument, UnfinishedLoad, BadName, NameTaken, NoSuchTable, NoSuchColumn, BadFlags, BadType, BadSource, BadValue, OutOfRange, TooLong, FloatRefused, BadJson, BadRow, MissingKey, EmptyKey, KeyGiven, LexiconReadOnly, NoSuchRecord, BadQuery, BadScript, TooDeep, BadNumber, TypeMismatch, NoMatchColumn, BadSortKey, TableFull, JournalFull}
@@ -93,7 +94,7 @@ labelled label (Some n) = label ++ decimal n
 -- a space and the name, where it is not empty
 abbrev pub spaced : List ℕ → List ℕ
 spaced [] = []
-spaced (c ∷ cs) = 32 ∷ c ∷ cs
+spaced (c ∷ cs) = byte " " ∷ c ∷ cs
 
 -- the fault's name, then its row, its place and its own name, each where it has one
 abbrev pub fault_text : Fault → List ℕ

@@ -2,13 +2,13 @@
 ghost use Rattle.std.specs.Prelude.{◌≡◌, IfOk, IfSome, IsUtf8, string_bytes};
 
 use super::NoMemory;
-use crate::short::{MOST, Short};
+use crate::short::{LONGEST_IN_PLACE, Short};
 use std::alloc::Global;
 use std::cmp::Ordering;
 use std::marker::Model;
 use std::sync::Arc;
 
-/// A text that never changes. A text of up to 14 bytes takes no allocation; a copy of a longer one is one more owner of the same bytes.
+/// A text that never changes. A text of up to `LONGEST_IN_PLACE` bytes, 14, takes no allocation; a copy of a longer one is one more owner of the same bytes.
 #[derive(Drop)]
 pub struct Bytes {
     kept: Kept,
@@ -25,7 +25,7 @@ enum Kept {
 
 impl Model for Bytes {
     ghost use Rattle.std.specs.Prelude.{List, ℕ};
-    ghost use Rattle.gr_base.specs.Kept.{text_of};
+    ghost use Rattle.gr_base.specs.Inside.Kept.{text_of};
 
     ghost Value = { List ℕ };
 
@@ -49,7 +49,7 @@ impl Bytes {
     fn short(bytes: &[u8]) -> Option<Bytes>
         ensures { IfSome result (λ text. text ≡ bytes.now) }
     {
-        if bytes.len() <= MOST {
+        if bytes.len() <= LONGEST_IN_PLACE {
             let kept = Kept::Short(Short::from_slice(bytes));
             Some(Bytes { kept })
         } else {

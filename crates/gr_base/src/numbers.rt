@@ -1,4 +1,7 @@
 // Numbers of tables, columns, records and sessions, and the limits of a run.
+use crate::limits::{
+    DEFAULT_JOURNAL_ENTRIES, DEFAULT_LINE_BYTES, DEFAULT_RECORDS, DEFAULT_SOURCE_BYTES,
+};
 
 /// A table's number, in order of making, from 0.
 #[derive(Clone, Copy, Debug, PartialEq, Eq, PartialOrd, Ord)]
@@ -19,13 +22,13 @@ pub struct SessionNo(pub u32);
 /// What a run takes at most.
 #[derive(Clone, Copy, Debug, PartialEq, Eq)]
 pub struct Limits {
-    /// Ids given in one table, 1 to 16,777,216.
+    /// Ids given in one table, 1 to `MOST_RECORDS`.
     pub records: u32,
-    /// Entries of the journal other than merges, 1 to 67,108,864.
+    /// Entries of the journal other than merges, 1 to `MOST_JOURNAL_ENTRIES`.
     pub journal: u64,
-    /// Bytes of one file, 1 to 268,435,456.
+    /// Bytes of one file, 1 to `MOST_SOURCE_BYTES`.
     pub source: u64,
-    /// Bytes of one line without its end, 1 to 33,554,432.
+    /// Bytes of one line without its end, 1 to `MOST_LINE_BYTES`.
     pub line: u64,
 }
 
@@ -37,10 +40,10 @@ impl Default for Limits {
 
     fn default() -> Limits {
         Limits {
-            records: 1_048_576,
-            journal: 4_194_304,
-            source: 67_108_864,
-            line: 33_554_432,
+            records: DEFAULT_RECORDS,
+            journal: DEFAULT_JOURNAL_ENTRIES,
+            source: DEFAULT_SOURCE_BYTES,
+            line: DEFAULT_LINE_BYTES,
         }
     }
 }

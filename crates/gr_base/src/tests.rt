@@ -1,4 +1,8 @@
 // The texts as replies show them, the rule for names, and each call that allocates, with memory at hand.
+ghost use Rattle.std.specs.Prelude.{◌≡◌, true, Ok, Err, if◌then◌else◌};
+ghost use Rattle.gr_base.specs.Failure.{Answers};
+ghost use Rattle.gr_base.specs.Name.{is_name};
+
 use super::*;
 use std::alloc::Global;
 use std::test::Fail;
@@ -176,4 +180,59 @@ fn lists_give_back_what_they_are_made_of(rt: HostRuntime) -> Result<(), Fail> {
     assert_eq!(rt; ids.as_slice(), wanted.as_slice());
     assert_eq!(rt; ids.into_vec().as_slice(), wanted.as_slice());
     Ok(())
+}
+
+/// The name, where it is one.
+fn named(alloc: Global, text: &[u8]) -> Result<Bytes, Failure<FaultKind>>
+    ensures { Answers result (if is_name text.now then Ok text.now else Err FaultKind.BadName) }
+{
+    if !is_name(text) {
+        return Err(Failure::Refused(FaultKind::BadName));
+    }
+    let copied = Vec::from_slice(alloc, text)?;
+    Ok(Bytes::from_vec(alloc, copied)?)
+}
+
+/// A list of the name, or a fault that tells it.
+fn listed(alloc: Global, text: &[u8]) -> Result<Texts, Failure<Fault>> {
+    let mut texts = Vec::new(alloc);
+    if !is_name(text) {
+        let name = Bytes::from_slice(alloc, text)?;
+        Err(Fault::named(FaultKind::BadName, name))?;
+    }
+    texts.push(Bytes::from_slice(alloc, text)?)?;
+    Ok(ListOf::from_vec(texts))
+}
+
+/// The name that a fault tells, where the list was refused.
+fn refused_name(listed: Result<Texts, Failure<Fault>>) -> Option<Bytes> {
+    match listed.err()? {
+        Failure::Refused(fault) => Some(fault.name),
+        Failure::NoMemory => None,
+    }
+}
+
+#[test]
+fn what_is_refused_is_no_want_of_memory(rt: HostRuntime) {
+    let refused = named(rt.alloc(), b"9x").err();
+    assert!(rt;
+        refused == Some(Failure::Refused(FaultKind::BadName)),
+        "{refused:?}"
+    );
+    let found = named(rt.alloc(), b"x").err();
+    assert!(rt; found.is_none(), "{found:?}");
+    let name = refused_name(listed(rt.alloc(), b"9x"));
+    assert!(rt;
+        name.is_some_and(|name| name.as_slice() == b"9x".as_slice()),
+        "9x is no name"
+    );
+    assert!(rt; listed(rt.alloc(), b"x").is_ok(), "x is a name");
+}
+
+#[test]
+fn steps_are_counted(rt: HostRuntime) {
+    let mut steps = Steps::new();
+    steps.tick();
+    steps.tick();
+    assert_eq!(rt; steps.count(), 2);
 }
