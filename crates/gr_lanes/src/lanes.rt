@@ -6,8 +6,10 @@ ghost use Rattle.std.specs.Simd.Lanes.{mask_l};
 ghost use Rattle.gr_base.specs.Compare.{is_met};
 ghost use Rattle.gr_lanes.specs.Mask.{IsMask, compares_signed, compares_unsigned, is_between};
 
+use super::chosen::Chosen;
 use gr_base::Cmp;
 use std::cmp::Ordering;
+use std::marker::PhantomData;
 use std::simd::prelude::*;
 
 /// A test of one value, and of eight at once.
@@ -22,18 +24,40 @@ pub(crate) trait Test<V> {
         ensures { result ≡ mask_l (map (passes self.now) values.now) };
 }
 
-/// A comparison of signed values with one.
+/// A comparison of signed values with one. Which comparison it is stands in the type, so that each has a loop of its own.
 #[derive(Drop)]
-pub(crate) struct Signed {
-    pub cmp: Cmp,
-    pub against: i64,
+pub(crate) struct Signed<C> {
+    against: i64,
+    chosen: PhantomData<C>,
 }
 
-/// A comparison of unsigned values with one.
+impl<C> Signed<C> {
+    pub(crate) fn new(against: i64) -> Signed<C>
+        ensures { result.against ≡ against }
+    {
+        Signed {
+            against,
+            chosen: PhantomData,
+        }
+    }
+}
+
+/// The same of unsigned values.
 #[derive(Drop)]
-pub(crate) struct Unsigned {
-    pub cmp: Cmp,
-    pub against: u64,
+pub(crate) struct Unsigned<C> {
+    against: u64,
+    chosen: PhantomData<C>,
+}
+
+impl<C> Unsigned<C> {
+    pub(crate) fn new(against: u64) -> Unsigned<C>
+        ensures { result.against ≡ against }
+    {
+        Unsigned {
+            against,
+            chosen: PhantomData,
+        }
+    }
 }
 
 /// Two ends that signed values are to stand between.
@@ -43,36 +67,27 @@ pub(crate) struct Between {
     pub high: i64,
 }
 
-impl Test<i64> for Signed {
-    ghost passes = { λ test. compares_signed test.cmp test.against };
+impl<C: Chosen> Test<i64> for Signed<C> {
+    ghost passes = { λ test. compares_signed C.chosen test.against };
 
     fn one(&self, value: i64) -> bool {
-        meets(self.cmp, value.cmp(&self.against))
+        meets(C::cmp(), value.cmp(&self.against))
     }
 
     fn eight(&self, values: &[i64]) -> u64 {
-        compare_signed(values, self.cmp, self.against)
+        compare_signed(values, C::cmp(), self.against)
     }
 }
 
-impl Test<u64> for Unsigned {
-    ghost passes = { λ test. compares_unsigned test.cmp test.against };
+impl<C: Chosen> Test<u64> for Unsigned<C> {
+    ghost passes = { λ test. compares_unsigned C.chosen test.against };
 
     fn one(&self, value: u64) -> bool {
-        meets(self.cmp, value.cmp(&self.against))
+        meets(C::cmp(), value.cmp(&self.against))
     }
 
     fn eight(&self, values: &[u64]) -> u64 {
-        let lanes = u64x8::from_slice(values);
-        let against = u64x8::splat(self.against);
-        match self.cmp {
-            Cmp::Eq => lanes.simd_eq(against).to_bitmask(),
-            Cmp::Ne => lanes.simd_ne(against).to_bitmask(),
-            Cmp::Lt => lanes.simd_lt(against).to_bitmask(),
-            Cmp::Le => lanes.simd_le(against).to_bitmask(),
-            Cmp::Gt => lanes.simd_gt(against).to_bitmask(),
-            Cmp::Ge => lanes.simd_ge(against).to_bitmask(),
-        }
+        compare_unsigned(values, C::cmp(), self.against)
     }
 }
 
@@ -95,6 +110,22 @@ fn compare_signed(values: &[i64], cmp: Cmp, against: i64) -> u64
     each_fits(values);
     let lanes = i64x8::from_slice(values);
     let against = i64x8::splat(against);
+    match cmp {
+        Cmp::Eq => lanes.simd_eq(against).to_bitmask(),
+        Cmp::Ne => lanes.simd_ne(against).to_bitmask(),
+        Cmp::Lt => lanes.simd_lt(against).to_bitmask(),
+        Cmp::Le => lanes.simd_le(against).to_bitmask(),
+        Cmp::Gt => lanes.simd_gt(against).to_bitmask(),
+        Cmp::Ge => lanes.simd_ge(against).to_bitmask(),
+    }
+}
+
+fn compare_unsigned(values: &[u64], cmp: Cmp, against: u64) -> u64
+    requires { length values.now ≡ 8 }
+    ensures { result ≡ mask_l (map (compares_unsigned cmp against) values.now) }
+{
+    let lanes = u64x8::from_slice(values);
+    let against = u64x8::splat(against);
     match cmp {
         Cmp::Eq => lanes.simd_eq(against).to_bitmask(),
         Cmp::Ne => lanes.simd_ne(against).to_bitmask(),

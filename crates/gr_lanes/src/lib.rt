@@ -1,6 +1,7 @@
 // Comparisons of up to 64 values at once, each answered by a mask of bits.
 #![tactic(auto)]
 
+mod chosen;
 mod lanes;
 #[cfg(test)]
 mod tests;
@@ -8,6 +9,7 @@ mod tests;
 ghost use Rattle.std.specs.Prelude.{◌≡◌, ◌≤◌, [], length, MatchOption};
 ghost use Rattle.gr_lanes.specs.Mask.{AreEnds, IsMask, compares_signed, compares_unsigned, is_between};
 
+use chosen::{Above, Below, Equal, From, Other, UpTo};
 use gr_base::Cmp;
 use lanes::{Between, Signed, Unsigned, mask_by};
 
@@ -16,7 +18,14 @@ pub fn mask_i64(values: &[i64], cmp: Cmp, against: i64) -> u64
     requires { length values.now ≤ 64 }
     ensures { IsMask (compares_signed cmp against) values.now result }
 {
-    mask_by(values, &Signed { cmp, against })
+    match cmp {
+        Cmp::Eq => mask_by(values, &Signed::<Equal>::new(against)),
+        Cmp::Ne => mask_by(values, &Signed::<Other>::new(against)),
+        Cmp::Lt => mask_by(values, &Signed::<Below>::new(against)),
+        Cmp::Le => mask_by(values, &Signed::<UpTo>::new(against)),
+        Cmp::Gt => mask_by(values, &Signed::<Above>::new(against)),
+        Cmp::Ge => mask_by(values, &Signed::<From>::new(against)),
+    }
 }
 
 /// The same for unsigned values.
@@ -24,7 +33,14 @@ pub fn mask_u64(values: &[u64], cmp: Cmp, against: u64) -> u64
     requires { length values.now ≤ 64 }
     ensures { IsMask (compares_unsigned cmp against) values.now result }
 {
-    mask_by(values, &Unsigned { cmp, against })
+    match cmp {
+        Cmp::Eq => mask_by(values, &Unsigned::<Equal>::new(against)),
+        Cmp::Ne => mask_by(values, &Unsigned::<Other>::new(against)),
+        Cmp::Lt => mask_by(values, &Unsigned::<Below>::new(against)),
+        Cmp::Le => mask_by(values, &Unsigned::<UpTo>::new(against)),
+        Cmp::Gt => mask_by(values, &Unsigned::<Above>::new(against)),
+        Cmp::Ge => mask_by(values, &Unsigned::<From>::new(against)),
+    }
 }
 
 /// Which of at most 64 values stand between two ends, both included.

@@ -4,9 +4,11 @@
 mod items;
 mod leaf;
 mod node;
+mod shares;
 #[cfg(test)]
 mod tests;
 mod vector;
 
 pub use items::Items;
+pub use node::MOST_LEVELS;
 pub use vector::PVec;

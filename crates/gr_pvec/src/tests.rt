@@ -1,6 +1,7 @@
 // Each call against a plain vector, at lengths on both sides of a leaf's end.
 use super::PVec;
 use std::alloc::Global;
+use std::process::Abort;
 use std::sync::Arc;
 use std::test::Fail;
 
@@ -8,63 +9,88 @@ use std::test::Fail;
 fn counted(alloc: Global, len: u64) -> Result<PVec<u64>, Fail> {
     let mut made = PVec::new();
     for i in 0..len {
-        if i % 2 == 0 && made.len() < 1 << 62 {
-            made.push(alloc, Arc::new(alloc, i)?)?;
-        } else if made.len() < 1 << 62 {
-            made = made.pushed(alloc, Arc::new(alloc, i)?)?;
+        if made.len() >= 1 << 62 {
+            return Ok(made);
+        }
+        let value = Arc::new(alloc, i)?;
+        if i % 2 == 0 {
+            made.push(alloc, value)?;
+        } else {
+            made = made.pushed(alloc, value)?;
         }
     }
     Ok(made)
 }
 
-// The same in a plain vector.
-fn plainly(alloc: Global, len: u64) -> Result<Vec<u64>, Fail> {
-    let mut made = Vec::new(alloc);
-    for i in 0..len {
-        made.push(i)?;
-    }
-    Ok(made)
-}
-
-// Whether both hold the same, element by element.
-fn is_same(vector: &PVec<u64>, plain: &[u64]) -> bool {
+// The first place at which the vector does not hold its own number, or its length.
+fn first_other(vector: &PVec<u64>) -> u64 {
     for i in 0..vector.len() {
-        if vector.get(i) != plain.get(i as usize) {
-            return false;
+        if vector.get(i) != Some(&i) {
+            return i;
         }
     }
-    vector.len() == plain.len() as u64
+    vector.len()
 }
 
-// Whether a walk from `from` on gives what the plain vector has there.
-fn is_walked(vector: &PVec<u64>, plain: &[u64], from: u64) -> bool {
+// How far a walk from `from` on gives each place's own number.
+fn walked(vector: &PVec<u64>, from: u64) -> u64 {
     let mut i = from;
     for item in vector.iter(from.min(vector.len()), vector.len()) {
-        if Some(item) != plain.get(i as usize) {
-            return false;
+        if *item != i {
+            return i;
         }
         i = i.wrapping_add(1);
     }
-    i == plain.len() as u64
+    i
+}
+
+fn holds(rt: &impl Abort, len: u64, alloc: Global) -> Result<(), Fail> {
+    let vector = counted(alloc, len)?;
+    assert_eq!(rt; first_other(&vector), len, "looked up, of {len}");
+    assert_eq!(rt; walked(&vector, len / 3), len, "walked, of {len}");
+    Ok(())
 }
 
 #[test]
-fn a_changed_copy_is_right_and_the_old_value_is_as_before(rt: HostRuntime) -> Result<(), Fail> {
-    let alloc = rt.alloc();
+fn places_hold_their_numbers(rt: HostRuntime) -> Result<(), Fail> {
     for len in [0, 1, 31, 32, 33, 1_000, 100_000] {
-        let plain = plainly(alloc, len)?;
-        let old = counted(alloc, len)?;
-        assert_eq!(rt; old.len(), len);
-        assert_eq!(rt; old.is_empty(), len == 0);
-        assert!(rt; is_walked(&old, &plain, 0) && is_walked(&old, &plain, len / 3));
-        let longer = old.pushed(alloc, Arc::new(alloc, 7)?)?;
-        assert_eq!(rt; longer.get(len).copied(), Some(7));
-        for i in (0..len).step_by(977) {
-            let changed = old.with(alloc, i, Arc::new(alloc, 9)?)?;
-            assert_eq!(rt; changed.get(i).copied(), Some(9));
-            assert!(rt; changed.get(i + 1) == plain.get(i as usize + 1));
-        }
-        assert!(rt; is_same(&old, &plain));
+        holds(&rt, len, rt.alloc())?;
     }
+    Ok(())
+}
+
+// The length up to which the old vector holds its numbers, after one of two copies was changed at `i`.
+fn after_changes(alloc: Global, len: u64, i: u64) -> Result<u64, Fail> {
+    let old = counted(alloc, len)?;
+    if i >= old.len() {
+        return Ok(len);
+    }
+    let changed = old.with(alloc, i, Arc::new(alloc, 0)?)?;
+    let mut edited = old.try_clone()?;
+    edited.set(alloc, i, Arc::new(alloc, 0)?)?;
+    if changed.get(i) == Some(&0) && edited.get(i) == Some(&0) {
+        Ok(first_other(&old))
+    } else {
+        Ok(i)
+    }
+}
+
+#[test]
+fn a_changed_copy_leaves_the_old_one(rt: HostRuntime) -> Result<(), Fail> {
+    for i in [1, 31, 32, 1_023, 1_024, 32_799, 39_999] {
+        assert_eq!(rt;
+            after_changes(rt.alloc(), 40_000, i)?,
+            40_000,
+            "changed at {i}"
+        );
+    }
+    Ok(())
+}
+
+fn shared<T: Send + Sync>(_value: &T) {}
+
+#[test]
+fn threads_may_share_it(rt: HostRuntime) -> Result<(), Fail> {
+    shared(&counted(rt.alloc(), 40)?);
     Ok(())
 }

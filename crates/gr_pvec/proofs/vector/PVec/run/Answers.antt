@@ -1,4 +1,4 @@
-use Rattle.gr_pvec.proofs.Edits.{run_in_time}
+use Rattle.gr_pvec.proofs.Runs.{run_in_time}
 use Rattle.gr_pvec.proofs.vector.PVec.run.Goals as goal
 
 pub returns-then-run-most : goal.returns-then-run-most
