@@ -1,7 +1,6 @@
--- The hash of a key, and the key's words behind it.
-use Rattle.std.specs.Prelude.{ℕ, zero, suc, ◌*◌, ◌/◌, ◌%◌, ◌^◌, List, fold}
+-- The hash of a key.
+use Rattle.std.specs.Prelude.{ℕ, ◌*◌, ◌/◌, ◌%◌, ◌^◌, List, fold}
 use Rattle.std.specs.Prelude.{bit_xor}
-use Rattle.gr_key_trie.specs.Text.{text_word}
 
 -- one step of FNV-1a
 unfoldable pub stepped : ℕ → ℕ → ℕ
@@ -17,8 +16,3 @@ mixed hash =
 -- FNV-1a over the bytes, and then the finalizer
 unfoldable pub key_hash : List ℕ → ℕ
 key_hash key = mixed (fold stepped 14695981039346656037 key)
-
--- the hash, and then the words of the text
-abbrev pub hash_word : List ℕ → ℕ → ℕ
-hash_word key zero = key_hash key
-hash_word key (suc i) = text_word key i

@@ -5,7 +5,7 @@ ghost use Rattle.std.specs.FinMap.{get};
 use super::PatKeys;
 use gr_base::{Bytes, KeyTable, RecordId};
 use gr_hash_keys::HashKeys;
-use gr_key_trie::PlainKeys;
+use gr_key_tree::{GrowingKeys, PlainKeys};
 use std::alloc::Global;
 use std::test::Fail;
 
@@ -50,6 +50,21 @@ fn with_key<K: KeyTable + Drop>(alloc: Global, table: K, named: &Named) -> Resul
         return Ok(table);
     }
     Ok(table.added(alloc, named.key.try_clone()?, named.id)?)
+}
+
+// Whether a key that is found or added in place is there for this table alone, and found again with its first id.
+fn grows_alone<K: GrowingKeys + Drop>(alloc: Global, table: &K) -> Result<bool, Fail> {
+    let key = Bytes::from_slice(alloc, b"the prefix of one more key")?;
+    let mut copy = table.try_clone()?;
+    let new = copy.find_or_add(alloc, &key, RecordId(77))?;
+    let again = copy.find_or_add(alloc, &key, RecordId(78))?;
+    let there = copy.find(key.as_slice());
+    Ok(
+        new.is_none()
+            && again == Some(RecordId(77))
+            && there == Some(RecordId(77))
+            && table.find(key.as_slice()).is_none(),
+    )
 }
 
 fn filled<K: KeyTable + Drop>(alloc: Global, empty: K, all: &[Named]) -> Result<K, Fail> {
@@ -148,6 +163,7 @@ fn plain_keys_are_a_finite_map(rt: HostRuntime) -> Result<(), Fail> {
     let all = all_named(alloc)?;
     let table = filled(alloc, PlainKeys::new(alloc), &all)?;
     assert_eq!(rt; found(&table, &all), 28);
+    assert!(rt; grows_alone(alloc, &table)?);
     assert!(rt; lacks(&table));
     assert!(rt; is_lost_and_regained(alloc, &table, &all)?);
     assert!(rt; finds_prefixes(alloc, &table)?);
@@ -161,6 +177,7 @@ fn hash_keys_are_a_finite_map(rt: HostRuntime) -> Result<(), Fail> {
     let all = all_named(alloc)?;
     let table = filled(alloc, HashKeys::new(), &all)?;
     assert_eq!(rt; found(&table, &all), 28);
+    assert!(rt; grows_alone(alloc, &table)?);
     assert!(rt; lacks(&table));
     assert!(rt; is_lost_and_regained(alloc, &table, &all)?);
     assert!(rt; finds_prefixes(alloc, &table)?);
@@ -174,6 +191,7 @@ fn pat_keys_are_a_finite_map(rt: HostRuntime) -> Result<(), Fail> {
     let all = all_named(alloc)?;
     let table = filled(alloc, PatKeys::new(), &all)?;
     assert_eq!(rt; found(&table, &all), 28);
+    assert!(rt; grows_alone(alloc, &table)?);
     assert!(rt; lacks(&table));
     assert!(rt; is_lost_and_regained(alloc, &table, &all)?);
     assert!(rt; finds_prefixes(alloc, &table)?);

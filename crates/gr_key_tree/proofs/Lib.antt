@@ -1,0 +1,10 @@
+mod Lookups
+mod Rising
+mod Changes
+mod Children
+mod Places
+mod Adding
+mod Exact
+mod Removing
+mod Skipping
+mod Maps
