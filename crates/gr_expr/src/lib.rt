@@ -1,8 +1,11 @@
-// The trees of queries and scripts: as they are written, and typed.
+// The typed trees of conditions, what they are shown as in groups, and the trees as they are written, named on.
 #![tactic(auto)]
 
-mod ast;
+mod groups;
+#[cfg(test)]
+mod tests;
 mod typed;
 
-pub use ast::{Arith, Ast, Combined, FieldOp, Join, Joined, Seek};
+pub use gr_ast::{Arith, Ast, Combined, FieldOp, Join, Joined, MatchColumn, MatchColumns, Seek};
+pub use groups::{Group, GroupKey};
 pub use typed::{By, CombinedTerm, Expr, JoinedExpr, Literal, SeekLeaf, Term, WeightedLeaf};

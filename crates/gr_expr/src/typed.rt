@@ -1,9 +1,11 @@
 // The typed tree of a condition: each name is a path, and each operator takes operands of its kinds.
+ghost use Rattle.std.specs.Prelude.{◌≡◌, IfOk};
 
-use super::{Arith, Join, Seek};
-use gr_base::{Bytes, Cmp};
+use gr_ast::{Arith, Join, Seek};
+use gr_base::{Bytes, Cmp, NoMemory};
 use gr_values::Path;
 use sqlite_items::{Boxed, Items};
+use std::alloc::Global;
 
 /// What a search compares.
 #[derive(Clone, Copy, Debug, PartialEq, Eq)]
@@ -27,6 +29,19 @@ pub enum Literal {
     Truth(bool),
 }
 
+impl Literal {
+    /// The same value once more. It fails only where the count of a long text's owners is full.
+    pub fn try_clone(&self) -> Result<Literal, NoMemory>
+        ensures { IfOk result (λ copy. copy ≡ self.now) }
+    {
+        match self {
+            Literal::Number(number) => Ok(Literal::Number(*number)),
+            Literal::Text(text) => Ok(Literal::Text(text.try_clone()?)),
+            Literal::Truth(truth) => Ok(Literal::Truth(*truth)),
+        }
+    }
+}
+
 /// A search in one field.
 #[derive(Drop)]
 pub struct SeekLeaf {
@@ -38,6 +53,20 @@ pub struct SeekLeaf {
     pub by: By,
     /// What is sought.
     pub value: Literal,
+}
+
+impl SeekLeaf {
+    /// The same search once more.
+    pub fn try_clone(&self, alloc: Global) -> Result<SeekLeaf, NoMemory>
+        ensures { IfOk result (λ copy. copy ≡ self.now) }
+    {
+        Ok(SeekLeaf {
+            path: self.path.try_clone(alloc)?,
+            seek: self.seek,
+            by: self.by,
+            value: self.value.try_clone()?,
+        })
+    }
 }
 
 /// A search in one field, whose score is multiplied.

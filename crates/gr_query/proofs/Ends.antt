@@ -3,8 +3,8 @@ use Rattle.std.proofs.Common.{◌≡◌, ℕ, suc, ◌+◌, ◌-◌, ◌<◌, Op
 use Rattle.std.proofs.lemmas.List.{drop-drop}
 use Rattle.std.proofs.lemmas.Str.{IsUtf8-take, IsCharBoundary-before_ascii}
 use Rattle.std.proofs.Math.Seq.{get_or-append_seam, take-append_seam}
-use Rattle.gr_query.specs.Lexing.{IsHeldBehind, IsText}
-use Rattle.gr_query.specs.Reading.{EndsInStar}
+use Rattle.gr_query.specs.Inside.Lexing.{IsHeldBehind, IsText}
+use Rattle.gr_query.specs.Inside.Reading.{EndsInStar}
 use Rattle.gr_query.specs.declared.token.Token.{Token}
 use Rattle.gr_text.proofs.Ascii.{IsUtf8-behind}
 use Rattle.gr_text.specs.Lexing.{IsHeld}

@@ -1,19 +1,19 @@
 -- Queries, and what begins one, are what the reader goes through.
 use Rattle.std.proofs.Common.{◌≡◌, ℕ, suc, List, [], ◌∷◌, ◌++◌, append-nil, Some, refl, sym, ◌∙◌, ap, subst}
-use Rattle.gr_expr.specs.declared.ast.Ast.{Ast}
-use Rattle.gr_expr.specs.declared.ast.Ast.TheVariants as ast
-use Rattle.gr_expr.specs.declared.ast.Joined.{Joined}
-use Rattle.gr_expr.specs.declared.ast.Seek.TheVariants as seek
+use Rattle.gr_ast.specs.declared.ast.Ast.{Ast}
+use Rattle.gr_ast.specs.declared.ast.Ast.TheVariants as ast
+use Rattle.gr_ast.specs.declared.ast.Joined.{Joined}
+use Rattle.gr_ast.specs.declared.operators.Seek.TheVariants as seek
 use Rattle.gr_query.specs.declared.frame.Before.{Before}
-use Rattle.gr_query.specs.declared.frame.Row.{Row}
+use Rattle.gr_query.specs.declared.frame.Units.{Units}
 use Rattle.gr_query.specs.declared.token.Token.TheVariants.{Close, Word}
-use Rattle.gr_query.specs.Grammar.{ReadsQuery, a_query, ReadsFirst, no_sign, ReadsFollow, no_follow, a_unit, ReadsUnit, a_word, Sentence}
-use Rattle.gr_query.specs.Machine.{Phase, Begin, Want, Have, State, state, placed, step, step_of, begin, finished, finish_of}
-use Rattle.gr_query.specs.Rows.{alone, with_links, tree_of}
+use Rattle.gr_query.specs.Grammar.{ParsesQuery, a_query, ParsesFirst, no_sign, ParsesFollow, no_follow, a_unit, ParsesUnit, a_word, Sentence}
+use Rattle.gr_query.specs.Inside.Machine.{Phase, Begin, Want, Have, State, state, placed, step, step_of, begin, finished, finish_of}
+use Rattle.gr_query.specs.Units.{alone, with_links, tree_of}
 use Rattle.gr_query.specs.Token.{Lexeme}
 use Rattle.gr_query.proofs.Steps.{Ends, at_end, at_close, Completes, Starts, Goes, GoesOn, with_links-nil, step_to, step_from}
 use Rattle.gr_text.proofs.Grammar.{IsGoing, end_of}
-use Rattle.gr_text.specs.Reading.{Outcome, goes, deep, wrong, run}
+use Rattle.gr_text.specs.Inside.Reading.{Outcome, goes, deep, wrong, run}
 use Rattle.gr_text.specs.Sentences.{Begins}
 use Rattle.gr_text.proofs.Cases.{some_is, none_is}
 
@@ -30,26 +30,26 @@ run_from w (t ∷ ts) more (goes (state phase frames levels)) m = step_from w ph
 run_from w (t ∷ ts) more deep m = m
 run_from w (t ∷ ts) more wrong m = m
 
-no_unit : {levels : ℕ} {tree : Ast} {at : ℕ} {rest : List Lexeme} → ReadsUnit levels [] tree at rest → ⊥
+no_unit : {levels : ℕ} {tree : Ast} {at : ℕ} {rest : List Lexeme} → ParsesUnit levels [] tree at rest → ⊥
 no_unit u = elim u [ ]
 
-no_first : {levels : ℕ} {first : Row} {rest : List Lexeme} → ReadsFirst levels [] first rest → ⊥
+no_first : {levels : ℕ} {first : Units} {rest : List Lexeme} → ParsesFirst levels [] first rest → ⊥
 no_first (no_sign u) = no_unit u
 
-row_to : {w : Ast} {frames : List Before} {levels : ℕ} (row : Row) {links : List Joined} {rest : List Lexeme} → ReadsFollow levels [] links rest → Ends w frames levels (with_links row links) rest → finished (Have row) frames ≡ Some w
-row_to row no_follow (at_end e) = ap Some (sym (ap tree_of (with_links-nil row)) ∙ e)
-row_to row (a_unit u l) ends = absurd (no_unit u)
+units_to : {w : Ast} {frames : List Before} {levels : ℕ} (units : Units) {links : List Joined} {rest : List Lexeme} → ParsesFollow levels [] links rest → Ends w frames levels (with_links units links) rest → finished (Have units) frames ≡ Some w
+units_to units no_follow (at_end e) = ap Some (sym (ap tree_of (with_links-nil units)) ∙ e)
+units_to units (a_unit u l) ends = absurd (no_unit u)
 
 ended_to : (w : Ast) (phase : Phase) (frames : List Before) (levels : ℕ) → Goes w phase frames levels [] → finished phase frames ≡ Some w
 ended_to w Begin frames levels m = absurd (no_first m.reads)
 ended_to w (Want before) frames levels m = absurd (no_unit m.reads)
-ended_to w (Have row) frames levels m = row_to row m.follows m.ends
+ended_to w (Have units) frames levels m = units_to units m.follows m.ends
 
 ended_from : (w : Ast) (phase : Phase) (frames : List Before) (levels : ℕ) → finished phase frames ≡ Some w → Goes w phase frames levels []
 ended_from w Begin frames levels e = absurd (none_is e)
 ended_from w (Want before) frames levels e = absurd (none_is e)
-ended_from w (Have row) [] levels e = record { links = []; rest = []; follows = no_follow; ends = at_end (ap tree_of (with_links-nil row) ∙ some_is e) }
-ended_from w (Have row) (before ∷ frames) levels e = absurd (none_is e)
+ended_from w (Have units) [] levels e = record { links = []; rest = []; follows = no_follow; ends = at_end (ap tree_of (with_links-nil units) ∙ some_is e) }
+ended_from w (Have units) (before ∷ frames) levels e = absurd (none_is e)
 
 end_to : (w : Ast) (o : Outcome State) → GoesOn w o [] → end_of finish_of o ≡ Some w
 end_to w (goes (state phase frames levels)) m = ended_to w phase frames levels m
@@ -64,14 +64,14 @@ end_from w wrong e = none_is e
 sentence_goes : (levels : ℕ) (ts : List Lexeme) (w : Ast) → Sentence levels ts w → Starts w [] levels ts
 sentence_goes levels ts w s = go s.1
   where
-    go : {w : Ast} {at : ℕ} → ReadsQuery levels ts w at [] → Starts w [] levels ts
+    go : {w : Ast} {at : ℕ} → ParsesQuery levels ts w at [] → Starts w [] levels ts
     go (a_query f l) = record { first = _; rest = _; reads = f; completes = record { links = _; rest = _; follows = l; ends = at_end refl } }
 
 goes_sentence : (levels : ℕ) (ts : List Lexeme) (w : Ast) → Starts w [] levels ts → Sentence levels ts w
 goes_sentence levels ts w m = go m.reads (m.completes).follows (m.completes).ends
   where
-    go : {first : Row} {us rest : List Lexeme} {links : List Joined} → ReadsFirst levels ts first us → ReadsFollow levels us links rest → Ends w [] levels (with_links first links) rest → Sentence levels ts w
-    go {first} f l (at_end e) = (first.at, subst (λ tree. ReadsQuery levels ts tree first.at []) e (a_query f l))
+    go : {first : Units} {us rest : List Lexeme} {links : List Joined} → ParsesFirst levels ts first us → ParsesFollow levels us links rest → Ends w [] levels (with_links first links) rest → Sentence levels ts w
+    go {first} f l (at_end e) = (first.at, subst (λ tree. ParsesQuery levels ts tree first.at []) e (a_query f l))
 
 -- the tokens are a query exactly where the reader ends with its tree
 pub sentence_to : (levels : ℕ) (ts : List Lexeme) (w : Ast) → Sentence levels ts w → end_of finish_of (run step_of (goes (begin levels)) ts) ≡ Some w
@@ -101,16 +101,16 @@ is_a_word : some_word.token ≡ Word seek.Match []
 unfolding some_word
 is_a_word = refl
 
--- closing brackets finish a row in open brackets
-record Finished (frames : List Before) (levels : ℕ) (row : Row) : Type 0 where
+-- closing brackets finish a units in open brackets
+record Finished (frames : List Before) (levels : ℕ) (units : Units) : Type 0 where
   whole : Ast
   ts : List Lexeme
-  ends : Ends whole frames levels row ts
+  ends : Ends whole frames levels units ts
 
-finishing : (frames : List Before) (levels : ℕ) (row : Row) → Finished frames levels row
-finishing [] levels row = record { whole = tree_of row; ts = []; ends = at_end refl }
-finishing (before ∷ frames) levels row =
-    let next = placed before row.at (tree_of row) in
+finishing : (frames : List Before) (levels : ℕ) (units : Units) → Finished frames levels units
+finishing [] levels units = record { whole = tree_of units; ts = []; ends = at_end refl }
+finishing (before ∷ frames) levels units =
+    let next = placed before units.at (tree_of units) in
     let f = finishing frames (suc levels) next in
     record { whole = f.whole; ts = closing ∷ f.ts; ends = at_close closing_closes no_follow (subst (λ of. Ends f.whole frames (suc levels) of f.ts) (sym (with_links-nil next)) f.ends) }
 
@@ -120,21 +120,21 @@ record Ending (phase : Phase) (frames : List Before) (levels : ℕ) : Type 0 whe
   ts : List Lexeme
   goes_on : Goes whole phase frames levels ts
 
-having : (frames : List Before) (levels : ℕ) (row : Row) → (f : Finished frames levels row) → Completes f.whole frames levels row f.ts
-having frames levels row f = record { links = []; rest = f.ts; follows = no_follow; ends = subst (λ of. Ends f.whole frames levels of f.ts) (sym (with_links-nil row)) f.ends }
+having : (frames : List Before) (levels : ℕ) (units : Units) → (f : Finished frames levels units) → Completes f.whole frames levels units f.ts
+having frames levels units f = record { links = []; rest = f.ts; follows = no_follow; ends = subst (λ of. Ends f.whole frames levels of f.ts) (sym (with_links-nil units)) f.ends }
 
 ending : (phase : Phase) (frames : List Before) (levels : ℕ) → Ending phase frames levels
 ending Begin frames levels =
-    let row = alone some_word.at (ast.Word some_word.at seek.Match []) in
-    let f = finishing frames levels row in
-    record { whole = f.whole; ts = some_word ∷ f.ts; goes_on = record { first = row; rest = f.ts; reads = no_sign (a_word is_a_word); completes = having frames levels row f } }
+    let units = alone some_word.at (ast.Word some_word.at seek.Match []) in
+    let f = finishing frames levels units in
+    record { whole = f.whole; ts = some_word ∷ f.ts; goes_on = record { first = units; rest = f.ts; reads = no_sign (a_word is_a_word); completes = having frames levels units f } }
 ending (Want before) frames levels =
-    let row = placed before some_word.at (ast.Word some_word.at seek.Match []) in
-    let f = finishing frames levels row in
-    record { whole = f.whole; ts = some_word ∷ f.ts; goes_on = record { tree = ast.Word some_word.at seek.Match []; at = some_word.at; rest = f.ts; reads = a_word is_a_word; completes = having frames levels row f } }
-ending (Have row) frames levels =
-    let f = finishing frames levels row in
-    record { whole = f.whole; ts = f.ts; goes_on = having frames levels row f }
+    let units = placed before some_word.at (ast.Word some_word.at seek.Match []) in
+    let f = finishing frames levels units in
+    record { whole = f.whole; ts = some_word ∷ f.ts; goes_on = record { tree = ast.Word some_word.at seek.Match []; at = some_word.at; rest = f.ts; reads = a_word is_a_word; completes = having frames levels units f } }
+ending (Have units) frames levels =
+    let f = finishing frames levels units in
+    record { whole = f.whole; ts = f.ts; goes_on = having frames levels units f }
 
 -- the tokens begin a query exactly where the reader goes on behind them
 pub begins_to : (levels : ℕ) (ts : List Lexeme) → Begins Sentence levels ts → IsGoing (run step_of (goes (begin levels)) ts)

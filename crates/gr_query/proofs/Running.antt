@@ -6,11 +6,11 @@ use Rattle.std.proofs.lemmas.Str.{IsUtf8-append, IsUtf8-drop, IsUtf8-take, IsCha
 use Rattle.std.proofs.Math.Seq.{drop-append-add, drop-append_seam, get_or-append_seam, take-append_seam}
 use Rattle.std.specs.Bool.{OnTrue}
 use Rattle.std.specs.Str.{IsCharBoundary}
-use Rattle.gr_query.specs.Reading.{EndsInStar}
-use Rattle.gr_query.specs.Runs.{Run, is_run, no_run, with_byte, run_behind, run_from}
+use Rattle.gr_query.specs.Inside.Reading.{EndsInStar}
+use Rattle.gr_query.specs.Runs.{CharacterRun, is_run, no_run, with_byte, run_behind, run_from}
 
 -- a run behind what was read: this text, of so many bytes, with a star last or none
-abbrev pub behind : List ℕ → ℕ → Bool → Run → Run
+abbrev pub behind : List ℕ → ℕ → Bool → CharacterRun → CharacterRun
 behind text read is_starred run = record { text = text ++ run.text; len = read + run.len; is_starred = cond (run.len == 0) is_starred run.is_starred }
 
 -- So much of a run is read, this text is meant by it, and this is still to be read.
@@ -26,10 +26,10 @@ not_zero : (n m : ℕ) → 0 < n → (n + m == 0) ≡ false
 not_zero n m h = ne_eqb (n + m) 0 (λ e. omega arith)
 
 -- where nothing is read, there is no star
-abbrev IsUnstarred : Run → Type 0
+abbrev IsUnstarred : CharacterRun → Type 0
 IsUnstarred run = cond (run.len == 0) false run.is_starred ≡ run.is_starred
 
-unstarred-with_byte : (c read : ℕ) (is_star : Bool) (run : Run) → 0 < read → IsUnstarred (with_byte c read is_star run)
+unstarred-with_byte : (c read : ℕ) (is_star : Bool) (run : CharacterRun) → 0 < read → IsUnstarred (with_byte c read is_star run)
 unstarred-with_byte c read is_star run some = subst (λ b. cond b false (cond (run.len == 0) is_star run.is_starred) ≡ cond (run.len == 0) is_star run.is_starred) (sym (not_zero read run.len some)) refl
 
 unstarred : (escaped : Bool) (bytes : List ℕ) → IsUnstarred (run_behind escaped bytes)
@@ -42,15 +42,15 @@ unstarred false (c ∷ cs) = by (c == 92) (is_run c) (unstarred true cs)
     by false true later = unstarred-with_byte c 1 (c == 42) (run_behind false cs) (omega arith)
     by false false later = refl
 
-abbrev made : List ℕ → ℕ → Bool → Run
+abbrev made : List ℕ → ℕ → Bool → CharacterRun
 made text len is_starred = record { text = text; len = len; is_starred = is_starred }
 
-behind-nil : (run : Run) → IsUnstarred run → behind [] 0 false run ≡ run
+behind-nil : (run : CharacterRun) → IsUnstarred run → behind [] 0 false run ≡ run
 behind-nil run e =
     let len : 0 + run.len ≡ run.len = omega arith in
     ap (λ n. made run.text n (cond (run.len == 0) false run.is_starred)) len ∙ ap (made run.text run.len) e
 
-behind-with_byte : (text : List ℕ) (read : ℕ) (last : Bool) (c more : ℕ) (is_star : Bool) (run : Run) → 0 < more → behind text read last (with_byte c more is_star run) ≡ behind (text ++ c ∷ []) (read + more) is_star run
+behind-with_byte : (text : List ℕ) (read : ℕ) (last : Bool) (c more : ℕ) (is_star : Bool) (run : CharacterRun) → 0 < more → behind text read last (with_byte c more is_star run) ≡ behind (text ++ c ∷ []) (read + more) is_star run
 behind-with_byte text read last c more is_star run some =
     let starred : Bool = cond (run.len == 0) is_star run.is_starred in
     let len : read + (more + run.len) ≡ read + more + run.len = omega arith in

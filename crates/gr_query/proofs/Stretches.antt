@@ -7,7 +7,7 @@ use Rattle.std.proofs.lemmas.Slice.Eq.{bytes_eq-Decides}
 use Rattle.std.proofs.lemmas.Str.{IsUtf8-drop, IsUtf8-take, IsCharBoundary-before_ascii, IsCharBoundary-end}
 use Rattle.std.specs.List.{prefix_len}
 use Rattle.std.specs.Str.{IsCharBoundary, bytes_eq}
-use Rattle.gr_query.specs.Reading.{HasEscape, unescaped}
+use Rattle.gr_query.specs.Inside.Reading.{HasEscape, unescaped}
 use Rattle.gr_query.specs.Runs.{begins_escape, is_run, no_run, with_byte, run_from}
 
 -- how many characters that stand for themselves come first

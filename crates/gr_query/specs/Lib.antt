@@ -1,9 +1,6 @@
 pub mod Runs
 pub mod Token
-pub mod Reading
-pub mod Rows
+pub mod Units
 pub mod Grammar
 pub mod Text
-pub mod Made
-pub mod Lexing
-pub mod Machine
+pub mod Inside

@@ -2,12 +2,12 @@
 use Rattle.std.specs.Prelude.{ℕ, Bool, false}
 use Rattle.gr_base.specs.declared.fault.FaultKind.{FaultKind}
 use Rattle.gr_base.specs.declared.fault.FaultKind.TheVariants.{BadQuery}
-use Rattle.gr_expr.specs.declared.ast.Ast.{Ast}
+use Rattle.gr_ast.specs.declared.ast.Ast.{Ast}
 use Rattle.gr_query.specs.Grammar.{Sentence}
 use Rattle.gr_query.specs.declared.token.Token.{Token}
 use Rattle.gr_text.specs.Cut.{Cut}
 use Rattle.gr_text.specs.Sentences as sentences
-use Rattle.gr_text.specs.declared.fault.TextFault.{TextFault}
+use Rattle.gr_text.specs.Fault.{TextFault}
 
 -- no token of a query is a number
 abbrev pub has_no_value : Token → Bool

@@ -2,13 +2,13 @@
 use Rattle.std.specs.Prelude.{ℕ, suc, ◌+◌, ◌-◌, ◌==◌, ◌&&◌, Bool, nat_lt, if◌then◌else◌, Option, Some, None, option_map, codes, List, [], ◌∷◌, take, drop, length, slice_index}
 use Rattle.std.specs.Str.{byte, bytes_eq}
 use Rattle.gr_base.specs.declared.compare.Cmp.TheVariants as cmp
-use Rattle.gr_expr.specs.declared.ast.FieldOp.{FieldOp}
-use Rattle.gr_expr.specs.declared.ast.FieldOp.TheVariants.{Compare, Find}
-use Rattle.gr_expr.specs.declared.ast.Seek.TheVariants as seek
+use Rattle.gr_ast.specs.declared.operators.FieldOp.{FieldOp}
+use Rattle.gr_ast.specs.declared.operators.FieldOp.TheVariants.{Compare, Find}
+use Rattle.gr_ast.specs.declared.operators.Seek.TheVariants as seek
 use Rattle.gr_text.specs.Cut.{Placed, Cut, cut}
 use Rattle.gr_text.specs.Paths.{path_len}
 use Rattle.gr_text.specs.Strings.{string_from}
-use Rattle.gr_query.specs.Runs.{Run, run_from}
+use Rattle.gr_query.specs.Runs.{CharacterRun, run_from}
 use Rattle.gr_query.specs.declared.token.Token.{Token}
 use Rattle.gr_query.specs.declared.token.Token.TheVariants.{Open, Close, Plus, Minus, Or, Word, Field}
 
@@ -21,7 +21,7 @@ abbrev pub phrase : Option (List ℕ × ℕ) → Option (List ℕ × ℕ)
 phrase string = option_map (λ string. (string.0, suc string.1)) string
 
 -- a run of one character at least: the text meant, and how many bytes it takes
-abbrev pub some_run : Run → Option (List ℕ × ℕ)
+abbrev pub some_run : CharacterRun → Option (List ℕ × ℕ)
 some_run run = if run.len == 0 then None else Some (run.text, run.len)
 
 -- the phrase or the run that a field is tested by
@@ -58,11 +58,11 @@ abbrev pub field_at : List ℕ → Option (Token × ℕ)
 field_at bytes = let rest = drop (suc (path_len bytes)) bytes in field_with (take (path_len bytes) bytes) (op_at rest) rest
 
 -- a run that ends in `*`: all before it, unless it is alone
-abbrev pub prefix_of : Run → Option (Token × ℕ)
+abbrev pub prefix_of : CharacterRun → Option (Token × ℕ)
 prefix_of run = if run.len == 1 then None else Some (Word seek.Prefix (take (length run.text - 1) run.text), run.len)
 
 -- a run that begins no field, given its bytes: the word OR, a prefix, or a plain
-abbrev pub plain_of : List ℕ → Run → Option (Token × ℕ)
+abbrev pub plain_of : List ℕ → CharacterRun → Option (Token × ℕ)
 plain_of bytes run =
     if run.len == 0 then None
     else (if bytes_eq bytes (codes "OR") then Some (Or, run.len)

@@ -2,15 +2,15 @@
 ghost use Rattle.std.specs.Prelude.{◌≡◌, ◌+◌, ◌-◌, ◌^◌, ◌<◌, ◌≤◌, ◌∷◌, IfNone, IfOk, IfSome, IsUtf8, drop, length, slice_index, suc, take, true, false};
 ghost use Rattle.gr_text.specs.Paths.{path_len};
 ghost use Rattle.gr_text.specs.Strings.{string_from};
-ghost use Rattle.gr_query.specs.Lexing.{IsHeldBehind, IsTextHeld};
-ghost use Rattle.gr_query.specs.Reading.{HasEscape};
+ghost use Rattle.gr_query.specs.Inside.Lexing.{IsHeldBehind, IsTextHeld};
+ghost use Rattle.gr_query.specs.Inside.Reading.{HasEscape};
 ghost use Rattle.gr_query.specs.Runs.{run_from};
 ghost use Rattle.gr_query.specs.Token.{begins_field, field_with, longer, op_at, phrase, some_run, text_at};
 
 use crate::runs::{run_from, stretch};
 use crate::token::Token;
+use gr_ast::{FieldOp, Seek};
 use gr_base::{Bytes, Cmp, NoMemory};
-use gr_expr::{FieldOp, Seek};
 use gr_text::{path_len, string_from};
 use std::alloc::Global;
 

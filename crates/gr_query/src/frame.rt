@@ -1,11 +1,11 @@
 // What the reader keeps of a query while it reads on.
 
-use gr_expr::{Ast, Join, Joined};
+use gr_ast::{Ast, Join, Joined};
 use sqlite_items::Items;
 
-/// Units in a row, each joined to those before it.
+/// Units, each joined to those before it.
 #[derive(Drop)]
-pub(crate) struct Row {
+pub(crate) struct Units {
     /// The place of the first token that is no opening bracket.
     pub(crate) at: u64,
     /// The first tree.
@@ -21,8 +21,8 @@ pub(crate) enum Before {
     Nothing,
     /// The unit is the first, behind a `+` at this place.
     Plus(u64),
-    /// The unit is joined so to those in this row.
-    Joins(Row, Join),
+    /// The unit is joined so to these.
+    Joins(Units, Join),
 }
 
 /// What comes next, in the last bracket.
@@ -32,8 +32,8 @@ pub(crate) enum Next {
     Begin,
     /// The first unit, behind a `+` at this place.
     Plus(u64),
-    /// A unit that is joined so to those of the row.
+    /// A unit that is joined so to those before it.
     Joins(Join),
-    /// What may follow the units of the row.
+    /// What may follow the units.
     Have,
 }

@@ -5,11 +5,11 @@ mod fields;
 mod frame;
 mod query;
 mod reader;
-mod rows;
 mod runs;
 #[cfg(test)]
 mod tests;
 mod token;
 mod tokenizer;
+mod units;
 
 pub use query::{one_answer, parse};

@@ -1,14 +1,14 @@
 // From a query's text to its tree, or to its fault.
 ghost use Rattle.std.specs.Prelude.{◌≡◌, ℕ, List, IfOk, IfErr};
 ghost use Rattle.gr_base.specs.declared.fault.FaultKind.{FaultKind as Kind};
-ghost use Rattle.gr_expr.specs.declared.ast.Ast.{Ast as Tree};
-ghost use Rattle.gr_query.specs.Made.{IsMade};
+ghost use Rattle.gr_ast.specs.declared.ast.Ast.{Ast as Tree};
+ghost use Rattle.gr_ast.specs.Made.{IsMade, IsOfQuery};
 ghost use Rattle.gr_query.specs.Text.{IsQuery, IsRefused, IsRefusal};
 ghost use Rattle.gr_query.specs.Token.{tokens_of};
 
 use crate::reader::QueryReader;
+use gr_ast::Ast;
 use gr_base::FaultKind;
-use gr_expr::Ast;
 use gr_text::{TextFault, read};
 use std::alloc::Global;
 
@@ -16,6 +16,7 @@ use std::alloc::Global;
 pub fn parse(alloc: Global, text: &str) -> Result<Ast, TextFault>
     ensures query { IfOk result (IsQuery (tokens_of text.now)) }
     ensures made { IfOk result IsMade }
+    ensures shape { IfOk result IsOfQuery }
     ensures refused { IfErr result (IsRefusal (tokens_of text.now)) }
 {
     read(alloc, QueryReader::new(alloc), FaultKind::BadQuery, text)

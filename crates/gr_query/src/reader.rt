@@ -1,29 +1,30 @@
 // How a query is read from the left in one pass: a step for each token.
 ghost use Rattle.std.specs.Prelude.{◌≡◌, ℕ};
-ghost use Rattle.gr_query.specs.Machine.{begin, finish_of, joined, step_of, with_first, with_unit};
+ghost use Rattle.gr_query.specs.Inside.Machine.{begin, finish_of, joined, step_of, with_first, with_unit};
 ghost use Rattle.gr_query.specs.Text.{has_no_value};
 ghost use Rattle.gr_query.specs.declared.token.Token.TheVariants.{Close, Minus, Open, Plus};
 ghost use Rattle.gr_text.specs.Lexing.{placed};
-ghost use Rattle.gr_text.specs.Reading.{Answers, goes};
-ghost use Rattle.gr_text.specs.Wrong.{most_levels};
+ghost use Rattle.gr_text.specs.Inside.Reading.{Answers, goes};
+ghost use Rattle.gr_base.specs.declared.limits.TheConstants.{MOST_LEVELS as most_levels};
 
-use crate::frame::{Before, Next, Row};
-use crate::rows::{alone, placed, push, tree_of, unread};
+use crate::frame::{Before, Next, Units};
 use crate::token::Token;
-use gr_expr::{Ast, Join};
+use crate::units::{alone, placed, push, tree_of, unread};
+use gr_ast::{Ast, Join};
+use gr_base::MOST_LEVELS;
 use gr_text::{Lexeme, Reader, Stop};
 use std::alloc::Global;
 use std::marker::Model;
 use std::mem;
 
-/// Reads a query. At most 64 brackets are open.
+/// Reads a query. At most `MOST_LEVELS` brackets are open.
 #[derive(Drop)]
 pub(crate) struct QueryReader {
     alloc: Global,
     /// What comes next.
     next: Next,
     /// What is read of the last bracket, where a unit of it is.
-    row: Row,
+    units: Units,
     /// What stands before each open bracket, the last one on top.
     frames: Vec<Before>,
     /// How many more brackets may be opened.
@@ -32,17 +33,18 @@ pub(crate) struct QueryReader {
 
 impl Model for QueryReader {
     ghost use Rattle.std.specs.Prelude.{◌≡◌, ◌+◌, length, reverse};
-    ghost use Rattle.gr_query.specs.Machine.{State, phase_of, state};
-    ghost use Rattle.gr_expr.specs.contracts.ast.Ast as ast;
+    ghost use Rattle.gr_base.specs.declared.limits.TheConstants.{MOST_LEVELS as most_levels};
+    ghost use Rattle.gr_query.specs.Inside.Machine.{State, phase_of, state};
+    ghost use Rattle.gr_ast.specs.contracts.ast.Ast as ast;
     ghost use Rattle.std.specs.Coded.{codes};
 
     ghost Value = { State };
 
     ghost coded = { Prim.hlevel (codes, ast.the_row.coded) };
 
-    ghost view = { λ reader. state (phase_of reader.next reader.row) (reverse reader.frames.items) reader.left };
+    ghost view = { λ reader. state (phase_of reader.next reader.units) (reverse reader.frames.items) reader.left };
 
-    ghost invariant = { λ reader. reader.left + length reader.frames.items ≡ 64 };
+    ghost invariant = { λ reader. reader.left + length reader.frames.items ≡ most_levels };
 }
 
 impl QueryReader {
@@ -53,9 +55,9 @@ impl QueryReader {
         QueryReader {
             alloc,
             next: Next::Begin,
-            row: unread(alloc),
+            units: unread(alloc),
             frames: Vec::new(alloc),
-            left: 64,
+            left: MOST_LEVELS,
         }
     }
 
@@ -77,7 +79,7 @@ impl QueryReader {
             Next::Joins(join) => join,
             Next::Have => Join::And,
         };
-        push(&mut self.row, join, tree)?;
+        push(self.alloc, &mut self.units, join, tree)?;
         self.next = Next::Have;
         Ok(())
     }
@@ -86,7 +88,7 @@ impl QueryReader {
     fn first(&mut self, at: u64, tree: Ast)
         ensures { self.new ≡ with_first self.old at tree }
     {
-        self.row = alone(self.alloc, at, tree);
+        self.units = alone(self.alloc, at, tree);
         self.next = Next::Have;
     }
 
@@ -97,12 +99,12 @@ impl QueryReader {
         if self.left == 0 {
             return Err(Stop::Deep);
         }
-        let row = mem::replace(&mut self.row, unread(self.alloc));
+        let units = mem::replace(&mut self.units, unread(self.alloc));
         let before = match self.next {
             Next::Begin => Before::Nothing,
             Next::Plus(sign) => Before::Plus(sign),
-            Next::Joins(join) => Before::Joins(row, join),
-            Next::Have => Before::Joins(row, Join::And),
+            Next::Joins(join) => Before::Joins(units, join),
+            Next::Have => Before::Joins(units, Join::And),
         };
         self.frames.push(before)?;
         self.left -= 1;
@@ -121,10 +123,10 @@ impl QueryReader {
             return Err(Stop::Wrong);
         };
         self.left += 1;
-        let row = mem::replace(&mut self.row, unread(self.alloc));
-        let at = row.at;
-        let tree = tree_of(self.alloc, row)?;
-        self.row = placed(self.alloc, before, at, tree)?;
+        let units = mem::replace(&mut self.units, unread(self.alloc));
+        let at = units.at;
+        let tree = tree_of(self.alloc, units)?;
+        self.units = placed(self.alloc, before, at, tree)?;
         Ok(())
     }
 
@@ -144,14 +146,14 @@ impl QueryReader {
         ensures { Answers result self.new (step_of self.old (record { at = at; token = Minus })) }
     {
         if let Next::Begin = self.next {
-            self.row = alone(self.alloc, at, Ast::All { at });
+            self.units = alone(self.alloc, at, Ast::All { at });
             self.next = Next::Joins(Join::Without);
             return Ok(());
         }
         self.join(Join::Without)
     }
 
-    /// What joins the next unit to those of the row.
+    /// What joins the next unit to those before it.
     fn join(&mut self, join: Join) -> Result<(), Stop>
         ensures { Answers result self.new (joined self.old join) }
     {
@@ -203,12 +205,12 @@ impl Reader for QueryReader {
         let QueryReader {
             alloc,
             next,
-            row,
+            units,
             frames,
             ..
         } = self;
         match next {
-            Next::Have if frames.is_empty() => Ok(tree_of(alloc, row)?),
+            Next::Have if frames.is_empty() => Ok(tree_of(alloc, units)?),
             _ => Err(Stop::Wrong),
         }
     }

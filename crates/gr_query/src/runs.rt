@@ -1,18 +1,18 @@
-// Runs: characters in a row, with escapes among them.
+// Runs: characters side by side, with escapes among them.
 ghost use Rattle.std.specs.Prelude.{◌≡◌, ◌++◌, ◌∷◌, ◌<◌, ◌≤◌, List, ℕ, IfNone, IfOk, IfSome, IsUtf8, drop, length, take};
 ghost use Rattle.std.specs.List.{prefix_len};
 ghost use Rattle.std.specs.Str.{IsCharBoundary};
 ghost use Rattle.std.specs.Bool.{OnTrue};
-ghost use Rattle.gr_query.specs.Reading.{EndsInStar, HasEscape, shown_run, unescaped};
+ghost use Rattle.gr_query.specs.Inside.Reading.{EndsInStar, HasEscape, shown_run, unescaped};
 ghost use Rattle.gr_query.specs.Runs.{begins_escape, is_run, no_run, run_from, with_byte};
 
 use gr_base::NoMemory;
-use gr_text::is_blank;
+use gr_text::is_white_space;
 use std::alloc::Global;
 
 /// A run that was read.
 #[derive(Drop)]
-pub(crate) struct Run {
+pub(crate) struct ScannedRun {
     /// What it means.
     pub(crate) text: Vec<u8>,
     /// How many bytes it has, none where no run stands here.
@@ -62,7 +62,7 @@ fn stretch_len(bytes: &[u8]) -> usize
 }
 
 /// The run that the bytes begin with, as long as it goes.
-pub(crate) fn run_from(alloc: Global, bytes: &[u8]) -> Result<Run, NoMemory>
+pub(crate) fn run_from(alloc: Global, bytes: &[u8]) -> Result<ScannedRun, NoMemory>
     ensures exact { IfOk result (λ run. shown_run run ≡ run_from bytes.now) }
     ensures star { IfOk result (λ run. OnTrue run.is_starred (EndsInStar run.text.items)) }
     ensures within { IfOk result (λ run. run.len ≤ length bytes.now) }
@@ -77,7 +77,7 @@ pub(crate) fn run_from(alloc: Global, bytes: &[u8]) -> Result<Run, NoMemory>
         is_starred = next.is_star;
         rest = rest.split_at(next.len).1;
     }
-    Ok(Run {
+    Ok(ScannedRun {
         text,
         len: bytes.len() - rest.len(),
         is_starred,
@@ -117,5 +117,5 @@ fn next_character(bytes: &[u8]) -> Option<Character>
 fn is_run(byte: u8) -> bool
     ensures { result ≡ is_run byte }
 {
-    !(is_blank(byte) || byte == b'"' || byte == b'(' || byte == b')' || byte == b'\\')
+    !(is_white_space(byte) || byte == b'"' || byte == b'(' || byte == b')' || byte == b'\\')
 }

@@ -1,8 +1,7 @@
 // The trees and the faults of queries, by hand.
 use super::*;
-use gr_base::{Bytes, Cmp, FaultKind, NoMemory};
-use gr_expr::{Ast, FieldOp, Join, Seek};
-use gr_text::TextFault;
+use gr_ast::{Ast, FieldOp, Join, Seek};
+use gr_base::{Bytes, Cmp, Failure, NoMemory};
 use std::alloc::Global;
 use std::fmt::Write;
 use std::test::Fail;
@@ -160,8 +159,8 @@ fn shown(alloc: Global, text: &str) -> Result<String, NoMemory> {
     let mut shown = String::new(alloc);
     match parse(alloc, text) {
         Ok(tree) => push_tree(&mut shown, &tree, 4)?,
-        Err(TextFault::Refused { kind, at }) => write!(shown, "{kind:?} at {at}")?,
-        Err(TextFault::NoMemory) => return Err(NoMemory),
+        Err(Failure::Refused(refusal)) => write!(shown, "{refusal}")?,
+        Err(Failure::NoMemory) => return Err(NoMemory),
     }
     Ok(shown)
 }
@@ -206,5 +205,50 @@ fn sixty_four_brackets_are_not_too_many(rt: HostRuntime) -> Result<(), Fail> {
     assert_eq!(rt; shown(alloc, most.as_str())?.as_str(), "64a");
     let more = nested(alloc, 65)?;
     assert_eq!(rt; shown(alloc, more.as_str())?.as_str(), "TooDeep at 64");
+    Ok(())
+}
+
+fn push_times(text: &mut String, part: &str, count: usize) -> Result<(), NoMemory> {
+    for _ in 0..count {
+        text.push_str(part)?;
+    }
+    Ok(())
+}
+
+/// A text of 10,000 characters between two others.
+fn push_long(text: &mut String, before: &str, after: &str) -> Result<(), NoMemory> {
+    text.push_str(before)?;
+    push_times(text, "x", 10_000)?;
+    text.push_str(after)?;
+    Ok(())
+}
+
+/// More than 100 KB: each kind of token with a long text, and then 8,000 words in brackets.
+fn long_query(alloc: Global) -> Result<String, NoMemory> {
+    let mut text = String::new(alloc);
+    push_long(&mut text, "\"", "\" ")?;
+    push_long(&mut text, "", " ")?;
+    push_long(&mut text, "", "* ")?;
+    push_long(&mut text, "\\y", " ")?;
+    push_long(&mut text, "\\y", "* ")?;
+    push_long(&mut text, "n:\"", "\" ")?;
+    push_long(&mut text, "n:", " ")?;
+    push_long(&mut text, "n:\\y", "")?;
+    push_times(&mut text, " (a)", 8_000)?;
+    Ok(text)
+}
+
+/// How many units a query has behind its first one.
+fn further_units(alloc: Global, text: &str) -> usize {
+    match parse(alloc, text) {
+        Ok(Ast::Chain { rest, .. }) => rest.len(),
+        _ => 0,
+    }
+}
+
+#[test]
+fn a_query_of_100_kb_has_its_tree(rt: HostRuntime) -> Result<(), Fail> {
+    let text = long_query(rt.alloc())?;
+    assert_eq!(rt; further_units(rt.alloc(), text.as_str()), 8_007);
     Ok(())
 }

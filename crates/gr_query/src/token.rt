@@ -1,7 +1,7 @@
 // What a query is cut into.
 
+use gr_ast::{FieldOp, Seek};
 use gr_base::Bytes;
-use gr_expr::{FieldOp, Seek};
 
 /// A token of a query.
 #[derive(Drop)]

@@ -1,15 +1,15 @@
 // The token that some bytes begin with.
 ghost use Rattle.std.specs.Prelude.{◌≡◌, ◌<◌, ◌∷◌, IfOk, IfSome, IsUtf8, length};
 ghost use Rattle.gr_text.specs.Lexing.{IsHeld};
-ghost use Rattle.gr_query.specs.Lexing.{IsText};
-ghost use Rattle.gr_query.specs.Reading.{EndsInStar, HasEscape, shown_run, unescaped};
+ghost use Rattle.gr_query.specs.Inside.Lexing.{IsText};
+ghost use Rattle.gr_query.specs.Inside.Reading.{EndsInStar, HasEscape, shown_run, unescaped};
 ghost use Rattle.gr_query.specs.Token.{phrase_at, plain_at, plain_of, prefix_of, token_at};
 
 use crate::fields::{field_parts, field_with, phrase};
-use crate::runs::{Run, run_from, stretch};
+use crate::runs::{ScannedRun, run_from, stretch};
 use crate::token::Token;
+use gr_ast::Seek;
 use gr_base::{Bytes, NoMemory};
-use gr_expr::Seek;
 use std::alloc::Global;
 
 /// A token and how many bytes it has, where there is one.
@@ -104,13 +104,13 @@ fn escaped_at(alloc: Global, bytes: &[u8]) -> Result<MaybeToken, NoMemory>
 }
 
 /// All of a run before the `*` that ends it.
-fn prefix_of(alloc: Global, run: Run) -> Result<MaybeToken, NoMemory>
+fn prefix_of(alloc: Global, run: ScannedRun) -> Result<MaybeToken, NoMemory>
     requires { 1 < run.len }
     ensures exact { IfOk result (λ found. found ≡ prefix_of (shown_run run)) }
     ensures len { IfOk result (λ found. IfSome found (λ found. found.1 ≡ run.len)) }
     ensures text { EndsInStar run.text.items → IsUtf8 run.text.items → IfOk result (λ found. IfSome found (λ found. IsText found.0)) }
 {
-    let Run { mut text, len, .. } = run;
+    let ScannedRun { mut text, len, .. } = run;
     let _star = text.pop();
     let text = Bytes::from_vec(alloc, text)?;
     Ok(Some((Token::Word(Seek::Prefix, text), len)))

@@ -1,11 +1,11 @@
 -- What a stack of begun parts means: the tokens that finish them all.
 use Rattle.std.proofs.Common.{◌≡◌, ◌≤◌, ℕ, suc, true, List, [], ◌∷◌, ◌++◌, length, ap, arith}
-use Rattle.gr_expr.specs.declared.ast.Arith.{Arith}
-use Rattle.gr_expr.specs.declared.ast.Ast.{Ast}
-use Rattle.gr_expr.specs.declared.ast.Combined.{Combined}
-use Rattle.gr_expr.specs.declared.ast.FieldOp.{FieldOp}
-use Rattle.gr_expr.specs.declared.ast.Join.{Join}
-use Rattle.gr_expr.specs.declared.ast.Joined.{Joined}
+use Rattle.gr_ast.specs.declared.operators.Arith.{Arith}
+use Rattle.gr_ast.specs.declared.ast.Ast.{Ast}
+use Rattle.gr_ast.specs.declared.ast.Combined.{Combined}
+use Rattle.gr_ast.specs.declared.operators.FieldOp.{FieldOp}
+use Rattle.gr_ast.specs.declared.operators.Join.{Join}
+use Rattle.gr_ast.specs.declared.ast.Joined.{Joined}
 use Rattle.gr_script.specs.declared.frame.Frame.{Frame}
 use Rattle.gr_script.specs.declared.frame.Frame.TheVariants.{Joining, Testing, Combining, Signing, Grouping, Calling}
 use Rattle.gr_script.specs.declared.grammar.After.TheVariants.{Closes}
@@ -14,10 +14,11 @@ use Rattle.gr_script.specs.declared.grammar.ConditionLine.{ConditionLine}
 use Rattle.gr_script.specs.declared.grammar.NumberLine.{NumberLine}
 use Rattle.gr_script.specs.declared.grammar.NumberLine.TheVariants.{Sum}
 use Rattle.gr_script.specs.declared.grammar.Sign.{Sign}
-use Rattle.gr_script.specs.Grammar.{Part, conditions, comparison, numbers, operand, script, of_conditions, of_numbers, Reads, Links, Terms, Arguments, no_argument, an_argument}
-use Rattle.gr_script.specs.Machine.{pull}
+use Rattle.gr_script.specs.Grammar.{Part, conditions, comparison, numbers, operand, script, of_conditions, of_numbers, Parses, Links, Terms, Arguments, no_argument, an_argument}
+use Rattle.gr_script.specs.Inside.Machine.{pull}
 use Rattle.gr_script.specs.Token.{Lexeme}
-use Rattle.gr_script.specs.Trees.{chain, calculation, tested, signed, called, takes, link, term}
+use Rattle.gr_ast.specs.Trees.{link, term}
+use Rattle.gr_script.specs.Trees.{chain_of, calculation_of, tested, signed, called, takes}
 use Rattle.gr_script.specs.Words.{after_of}
 use Rattle.gr_script.proofs.Climb.{rank, pull_of, rank-of_conditions, rank-of_numbers, Climbs, here, onward, looser, no_links, no_terms, still}
 
@@ -46,9 +47,9 @@ hole (frame ∷ frames) = wanted frame
 -- Behind the tree, of this part, in these begun parts, the tokens finish a script of the whole tree.
 pub data Completes (whole : Ast) : Part → List Frame → ℕ → Ast → List Lexeme → Type 0 where
   at_bottom : {p : Part} {levels : ℕ} {x : Ast} {ts : List Lexeme} → Climbs p levels x ts script whole [] → Completes whole p [] levels x ts
-  in_chain : {p : Part} {line : ConditionLine} {first : Ast} {links : List Joined} {join : Join} {frames : List Frame} {levels : ℕ} {x y : Ast} {ts us rest : List Lexeme} {more : List Joined} → Climbs p levels x ts (of_conditions line) y us → Links line levels us more rest → Completes whole (conditions line) frames levels (chain first (links ++ (link join y ∷ more))) rest → Completes whole p (Joining line first links join ∷ frames) levels x ts
+  in_chain : {p : Part} {line : ConditionLine} {first : Ast} {links : List Joined} {join : Join} {frames : List Frame} {levels : ℕ} {x y : Ast} {ts us rest : List Lexeme} {more : List Joined} → Climbs p levels x ts (of_conditions line) y us → Links line levels us more rest → Completes whole (conditions line) frames levels (chain_of first (links ++ (link join y ∷ more))) rest → Completes whole p (Joining line first links join ∷ frames) levels x ts
   in_test : {p : Part} {test : FieldOp} {left : Ast} {frames : List Frame} {levels : ℕ} {x y : Ast} {ts us : List Lexeme} → Climbs p levels x ts (numbers Sum) y us → Completes whole comparison frames levels (tested test left y) us → Completes whole p (Testing test left ∷ frames) levels x ts
-  in_calculation : {p : Part} {line : NumberLine} {first : Ast} {terms : List Combined} {sign : Arith} {frames : List Frame} {levels : ℕ} {x y : Ast} {ts us rest : List Lexeme} {more : List Combined} → Climbs p levels x ts (of_numbers line) y us → Terms line levels us more rest → Completes whole (numbers line) frames levels (calculation first (terms ++ (term sign y ∷ more))) rest → Completes whole p (Combining line first terms sign ∷ frames) levels x ts
+  in_calculation : {p : Part} {line : NumberLine} {first : Ast} {terms : List Combined} {sign : Arith} {frames : List Frame} {levels : ℕ} {x y : Ast} {ts us rest : List Lexeme} {more : List Combined} → Climbs p levels x ts (of_numbers line) y us → Terms line levels us more rest → Completes whole (numbers line) frames levels (calculation_of first (terms ++ (term sign y ∷ more))) rest → Completes whole p (Combining line first terms sign ∷ frames) levels x ts
   in_sign : {p : Part} {sign : Sign} {at : ℕ} {frames : List Frame} {levels : ℕ} {x y : Ast} {ts us : List Lexeme} → Climbs p levels x ts operand y us → Completes whole operand frames (suc levels) (signed sign at y) us → Completes whole p (Signing sign at ∷ frames) levels x ts
   in_group : {p : Part} {frames : List Frame} {levels : ℕ} {x y : Ast} {t : Lexeme} {ts us : List Lexeme} → Climbs p levels x ts script y (t ∷ us) → after_of t ≡ Closes → Completes whole operand frames (suc levels) y us → Completes whole p (Grouping ∷ frames) levels x ts
   in_call : {p : Part} {call : Call} {at : ℕ} {args : List Ast} {frames : List Frame} {levels : ℕ} {x y : Ast} {ts us rest : List Lexeme} {more : List Ast} → Climbs p levels x ts script y us → Arguments levels us more rest → takes call (length (args ++ (y ∷ more))) ≡ true → Completes whole operand frames (suc levels) (called call at (args ++ (y ∷ more))) rest → Completes whole p (Calling call at args ∷ frames) levels x ts
@@ -116,5 +117,5 @@ stuck (in_call c a k m) h =
 pub record Wants (w : Ast) (frames : List Frame) (levels : ℕ) (ts : List Lexeme) : Type 0 where
   pub tree : Ast
   pub rest : List Lexeme
-  pub reads : Reads operand levels ts tree rest
+  pub reads : Parses operand levels ts tree rest
   pub completes : Completes w operand frames levels tree rest

@@ -1,19 +1,19 @@
 -- From an operand up through the looser parts of the grammar.
 use Rattle.std.proofs.Common.{◌≡◌, ◌≢◌, ◌≤◌, ℕ, suc, List, [], ◌∷◌, refl, sym, ◌∙◌, ap, arith}
 use mathlib.Core.Path.{ap₂}
-use Rattle.gr_expr.specs.declared.ast.Ast.{Ast}
-use Rattle.gr_expr.specs.declared.ast.Combined.{Combined}
-use Rattle.gr_expr.specs.declared.ast.FieldOp.{FieldOp}
-use Rattle.gr_expr.specs.declared.ast.Joined.{Joined}
+use Rattle.gr_ast.specs.declared.ast.Ast.{Ast}
+use Rattle.gr_ast.specs.declared.ast.Combined.{Combined}
+use Rattle.gr_ast.specs.declared.operators.FieldOp.{FieldOp}
+use Rattle.gr_ast.specs.declared.ast.Joined.{Joined}
 use Rattle.gr_script.specs.declared.grammar.After.TheVariants.{Tests}
 use Rattle.gr_script.specs.declared.grammar.ConditionLine.{ConditionLine}
 use Rattle.gr_script.specs.declared.grammar.ConditionLine.TheVariants.{Any, All}
 use Rattle.gr_script.specs.declared.grammar.NumberLine.{NumberLine}
 use Rattle.gr_script.specs.declared.grammar.NumberLine.TheVariants.{Sum, Product}
-use Rattle.gr_script.specs.Grammar.{Part, conditions, comparison, numbers, operand, of_conditions, of_numbers, Reads, a_chain, a_number, a_test, a_calculation, a_leaf, a_sign, a_group, a_call, Links, no_link, a_link, Terms, no_term, a_term}
-use Rattle.gr_script.specs.Machine.{tightness, number_tightness, pull}
+use Rattle.gr_script.specs.Grammar.{Part, conditions, comparison, numbers, operand, of_conditions, of_numbers, Parses, a_chain, a_number, a_test, a_calculation, a_leaf, a_sign, a_group, a_call, Links, no_link, a_link, Terms, no_term, a_term}
+use Rattle.gr_script.specs.Inside.Machine.{tightness, number_tightness, pull}
 use Rattle.gr_script.specs.Token.{Lexeme}
-use Rattle.gr_script.specs.Trees.{chain, calculation, tested}
+use Rattle.gr_script.specs.Trees.{chain_of, calculation_of, tested}
 use Rattle.gr_script.specs.Words.{after_of}
 
 -- how tightly a part binds
@@ -47,13 +47,13 @@ tightness_above Product = omega arith
 -- Behind the operand tree, of the part from, the tokens ts go on to this looser part; its tree, and the tokens after it.
 pub data Climbs (from : Part) (levels : ℕ) (tree : Ast) (ts : List Lexeme) : Part → Ast → List Lexeme → Type 0 where
   here : Climbs from levels tree ts from tree ts
-  chained : {line : ConditionLine} {us rest : List Lexeme} {first : Ast} {links : List Joined} → Climbs from levels tree ts (of_conditions line) first us → Links line levels us links rest → Climbs from levels tree ts (conditions line) (chain first links) rest
+  chained : {line : ConditionLine} {us rest : List Lexeme} {first : Ast} {links : List Joined} → Climbs from levels tree ts (of_conditions line) first us → Links line levels us links rest → Climbs from levels tree ts (conditions line) (chain_of first links) rest
   numbered : {rest : List Lexeme} {number : Ast} → Climbs from levels tree ts (numbers Sum) number rest → Climbs from levels tree ts comparison number rest
-  compared : {t : Lexeme} {us rest : List Lexeme} {left right : Ast} {test : FieldOp} → Climbs from levels tree ts (numbers Sum) left (t ∷ us) → after_of t ≡ Tests test → Reads (numbers Sum) levels us right rest → Climbs from levels tree ts comparison (tested test left right) rest
-  calculated : {line : NumberLine} {us rest : List Lexeme} {first : Ast} {terms : List Combined} → Climbs from levels tree ts (of_numbers line) first us → Terms line levels us terms rest → Climbs from levels tree ts (numbers line) (calculation first terms) rest
+  compared : {t : Lexeme} {us rest : List Lexeme} {left right : Ast} {test : FieldOp} → Climbs from levels tree ts (numbers Sum) left (t ∷ us) → after_of t ≡ Tests test → Parses (numbers Sum) levels us right rest → Climbs from levels tree ts comparison (tested test left right) rest
+  calculated : {line : NumberLine} {us rest : List Lexeme} {first : Ast} {terms : List Combined} → Climbs from levels tree ts (of_numbers line) first us → Terms line levels us terms rest → Climbs from levels tree ts (numbers line) (calculation_of first terms) rest
 
 -- each part begins with an operand
-pub split : {p : Part} {levels : ℕ} {ts rest : List Lexeme} {tree : Ast} → Reads p levels ts tree rest → (x : Ast) × (us : List Lexeme) × Reads operand levels ts x us × Climbs operand levels x us p tree rest
+pub split : {p : Part} {levels : ℕ} {ts rest : List Lexeme} {tree : Ast} → Parses p levels ts tree rest → (x : Ast) × (us : List Lexeme) × Parses operand levels ts x us × Climbs operand levels x us p tree rest
 split (a_chain r l) = let s = split r in (s.0, s.1, s.2, chained s.3 l)
 split (a_number r) = let s = split r in (s.0, s.1, s.2, numbered s.3)
 split (a_test r e o) = let s = split r in (s.0, s.1, s.2, compared s.3 e o)
@@ -63,7 +63,7 @@ split (a_sign e r) = (_, _, a_sign e r, here)
 split (a_group e r c) = (_, _, a_group e r c, here)
 split (a_call e o r a k) = (_, _, a_call e o r a k, here)
 
-pub merge : {p : Part} {levels : ℕ} {x : Ast} {ts us rest : List Lexeme} {q : Part} {tree : Ast} → Reads p levels ts x us → Climbs p levels x us q tree rest → Reads q levels ts tree rest
+pub merge : {p : Part} {levels : ℕ} {x : Ast} {ts us rest : List Lexeme} {q : Part} {tree : Ast} → Parses p levels ts x us → Climbs p levels x us q tree rest → Parses q levels ts tree rest
 merge r here = r
 merge r (chained c l) = a_chain (merge r c) l
 merge r (numbered c) = a_number (merge r c)
@@ -101,7 +101,7 @@ still (chained {line = line} c l) out =
     let s = still c (λ h. out (omega arith)) in
     let same = ap pull_of s.1 in
     let n = no_links l (λ e. omega (arith, out (omega arith))) in
-    (ap₂ chain s.0 n.0, n.1 ∙ s.1)
+    (ap₂ chain_of s.0 n.0, n.1 ∙ s.1)
 still (numbered c) out = still c (λ h. out (omega arith))
 still (compared c e o) out =
     let high = looser c in
@@ -114,4 +114,4 @@ still (calculated {line = line} c l) out =
     let s = still c (λ h. out (omega arith)) in
     let same = ap pull_of s.1 in
     let n = no_terms l (λ e. omega (arith, out (omega arith))) in
-    (ap₂ calculation s.0 n.0, n.1 ∙ s.1)
+    (ap₂ calculation_of s.0 n.0, n.1 ∙ s.1)

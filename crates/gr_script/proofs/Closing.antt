@@ -2,26 +2,28 @@
 use Rattle.std.proofs.Common.{◌≡◌, ◌<◌, ◌≤◌, ℕ, suc, Bool, true, false, cond, nat_lt, List, [], ◌∷◌, ◌++◌, length, refl, sym, ◌∙◌, ap, subst, arith}
 use Rattle.std.proofs.lemmas.Bool.{ltb-true, ltb-false}
 use mathlib.Core.Path.{ap₂, subst₂}
-use Rattle.gr_expr.specs.declared.ast.Ast.{Ast}
-use Rattle.gr_expr.specs.declared.ast.Ast.TheVariants as ast
-use Rattle.gr_expr.specs.declared.ast.Combined.{Combined}
-use Rattle.gr_expr.specs.declared.ast.Joined.{Joined}
+use Rattle.gr_ast.specs.declared.ast.Ast.{Ast}
+use Rattle.gr_ast.specs.declared.ast.Ast.TheVariants as ast
+use Rattle.gr_ast.specs.declared.ast.Combined.{Combined}
+use Rattle.gr_ast.specs.declared.ast.Joined.{Joined}
+use Rattle.gr_ast.specs.declared.limits.TheConstants.{BETWEEN_ARGUMENTS}
 use Rattle.gr_script.specs.declared.frame.Frame.{Frame}
 use Rattle.gr_script.specs.declared.frame.Frame.TheVariants.{Joining, Testing, Combining, Signing, Grouping, Calling}
 use Rattle.gr_script.specs.declared.grammar.Call.TheVariants.{Between}
 use Rattle.gr_script.specs.Grammar.{Part, conditions, comparison, numbers, operand, no_link, no_term}
-use Rattle.gr_script.specs.Machine.{hold, closed, released, reduced, Held}
+use Rattle.gr_script.specs.Inside.Machine.{hold, closed, released, reduced, Held}
 use Rattle.gr_script.specs.Token.{Lexeme}
-use Rattle.gr_script.specs.Trees.{place_of, chain, calculation, tested, signed, link, term}
+use Rattle.gr_ast.specs.Trees.{place_of, link, term}
+use Rattle.gr_script.specs.Trees.{chain_of, calculation_of, tested, signed}
 use Rattle.gr_script.proofs.Climb.{rank, pull_of, rank-of_conditions, rank-of_numbers, no_links, no_terms, still}
 use Rattle.gr_script.proofs.Begun.{line_of, wanted, Completes, in_chain, in_test, in_calculation, in_sign, in_group, in_call}
 use Rattle.gr_script.proofs.Taken.{free}
 
-pub chain_filled : (first : Ast) (links : List Joined) (next : Joined) (more : List Joined) → chain first (links ++ (next ∷ more)) ≡ ast.Chain (place_of first) first (links ++ (next ∷ more))
+pub chain_filled : (first : Ast) (links : List Joined) (next : Joined) (more : List Joined) → chain_of first (links ++ (next ∷ more)) ≡ ast.Chain (place_of first) first (links ++ (next ∷ more))
 chain_filled first [] next more = refl
 chain_filled first (l ∷ links) next more = refl
 
-pub calculation_filled : (first : Ast) (terms : List Combined) (next : Combined) (more : List Combined) → calculation first (terms ++ (next ∷ more)) ≡ ast.Calc (place_of first) first (terms ++ (next ∷ more))
+pub calculation_filled : (first : Ast) (terms : List Combined) (next : Combined) (more : List Combined) → calculation_of first (terms ++ (next ∷ more)) ≡ ast.Calc (place_of first) first (terms ++ (next ∷ more))
 calculation_filled first [] next more = refl
 calculation_filled first (l ∷ terms) next more = refl
 
@@ -31,8 +33,8 @@ close_frame {w} {x = x} (in_chain {line = line} {first = first} {links = links} 
     let s = still c (λ low. omega (arith, rank-of_conditions line)) in
     let at = ap pull_of s.1 in
     let n = no_links l (λ e. omega arith) in
-    let same : chain first (links ++ (link join y ∷ more)) ≡ ast.Chain (place_of first) first (links ++ (link join x ∷ [])) =
-    ap₂ (λ z ls. chain first (links ++ (link join z ∷ ls))) s.0 n.0 ∙ chain_filled first links (link join x) [] in
+    let same : chain_of first (links ++ (link join y ∷ more)) ≡ ast.Chain (place_of first) first (links ++ (link join x ∷ [])) =
+    ap₂ (λ z ls. chain_of first (links ++ (link join z ∷ ls))) s.0 n.0 ∙ chain_filled first links (link join x) [] in
     subst₂ (λ tree rest. Completes w (conditions line) frames levels tree rest) same (n.1 ∙ s.1) m
 close_frame {w} {x = x} (in_test {test = test} {left = left} {frames = frames} {levels = levels} c m) h =
     let s = still c (λ low. omega arith) in
@@ -41,8 +43,8 @@ close_frame {w} {x = x} (in_calculation {line = line} {first = first} {terms = t
     let s = still c (λ low. omega (arith, rank-of_numbers line)) in
     let at = ap pull_of s.1 in
     let n = no_terms l (λ e. omega arith) in
-    let same : calculation first (terms ++ (term sign y ∷ more)) ≡ ast.Calc (place_of first) first (terms ++ (term sign x ∷ [])) =
-    ap₂ (λ z ls. calculation first (terms ++ (term sign z ∷ ls))) s.0 n.0 ∙ calculation_filled first terms (term sign x) [] in
+    let same : calculation_of first (terms ++ (term sign y ∷ more)) ≡ ast.Calc (place_of first) first (terms ++ (term sign x ∷ [])) =
+    ap₂ (λ z ls. calculation_of first (terms ++ (term sign z ∷ ls))) s.0 n.0 ∙ calculation_filled first terms (term sign x) [] in
     subst₂ (λ tree rest. Completes w (numbers line) frames levels tree rest) same (n.1 ∙ s.1) m
 close_frame {w} {x = x} (in_sign {sign = sign} {at = at} {frames = frames} {levels = levels} c m) h =
     let s = still c (λ low. omega arith) in
@@ -70,7 +72,7 @@ hold-line_of (Calling call at args) = omega arith
 
 -- an opened call may still be given an argument
 abbrev pub HasRoom : Frame → Type 0
-HasRoom (Calling Between at args) = length args < 5
+HasRoom (Calling Between at args) = length args < BETWEEN_ARGUMENTS
 HasRoom _ = Unit {0}
 
 -- begun parts that stand in each other as the grammar has them, with one of this part in the last

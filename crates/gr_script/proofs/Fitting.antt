@@ -1,9 +1,9 @@
 -- The readers of scripts and of match columns fit their grammars.
 use Rattle.std.proofs.Common.{refl}
 use Rattle.gr_script.specs.Columns.{AreColumns}
-use Rattle.gr_script.specs.ColumnSteps.{columns_step_of, columns_end_of, columns_begin}
+use Rattle.gr_script.specs.Inside.ColumnSteps.{columns_step_of, columns_end_of, columns_begin}
 use Rattle.gr_script.specs.Grammar.{Sentence}
-use Rattle.gr_script.specs.Machine.{step_of, finished_of, begin}
+use Rattle.gr_script.specs.Inside.Machine.{step_of, finished_of, begin}
 use Rattle.gr_script.proofs.Levels.{raised_state, state_raised}
 use Rattle.gr_script.proofs.Listing.{begin_to, begin_from, columns_end_to, columns_end_from, state_raised as columns_raised}
 use Rattle.gr_script.proofs.Scripts.{begins_to, begins_from, sentence_to, sentence_from}

@@ -1,11 +1,12 @@
 -- Each state of the reader is a stack that some tokens finish.
 use Rattle.std.proofs.Common.{◌≡◌, ◌≤◌, ℕ, zero, suc, ◌-◌, Bool, true, false, cond, List, [], ◌∷◌, ◌++◌, length, length-append, codes, refl, ap, arith}
 use Rattle.std.proofs.lemmas.Bool.{ltb-true, eq-eqb, le-leb}
-use Rattle.gr_expr.specs.declared.ast.Arith.{Arith}
-use Rattle.gr_expr.specs.declared.ast.Ast.{Ast}
-use Rattle.gr_expr.specs.declared.ast.Ast.TheVariants.{Truth}
-use Rattle.gr_expr.specs.declared.ast.FieldOp.{FieldOp}
-use Rattle.gr_expr.specs.declared.ast.Join.{Join}
+use Rattle.gr_ast.specs.declared.operators.Arith.{Arith}
+use Rattle.gr_ast.specs.declared.ast.Ast.{Ast}
+use Rattle.gr_ast.specs.declared.ast.Ast.TheVariants.{Truth}
+use Rattle.gr_ast.specs.declared.limits.TheConstants.{BETWEEN_ARGUMENTS, LEAST_IN_VALUES}
+use Rattle.gr_ast.specs.declared.operators.FieldOp.{FieldOp}
+use Rattle.gr_ast.specs.declared.operators.Join.{Join}
 use Rattle.gr_script.specs.declared.frame.Frame.{Frame}
 use Rattle.gr_script.specs.declared.frame.Frame.TheVariants.{Joining, Testing, Combining, Signing, Grouping, Calling}
 use Rattle.gr_script.specs.declared.grammar.After.{After}
@@ -20,17 +21,18 @@ use Rattle.gr_script.specs.declared.grammar.Start.{Start}
 use Rattle.gr_script.specs.declared.grammar.Start.TheVariants as start
 use Rattle.gr_script.specs.declared.token.Symbol.TheVariants as s
 use Rattle.gr_script.specs.Grammar.{Part, conditions, comparison, numbers, operand, script, of_conditions, of_numbers, a_leaf, Arguments, no_argument, an_argument, no_link, no_term}
-use Rattle.gr_script.specs.Machine.{tightness, number_tightness, pull, Held, reduced, join_on, test_on, combine_on, close_on, takes_more, separate_on, follows, begun, step, Phase, Want, Opening, Have, State, state, step_of}
+use Rattle.gr_script.specs.Inside.Machine.{tightness, number_tightness, pull, Held, reduced, join_on, test_on, combine_on, close_on, takes_more, separate_on, follows, begun, step, Phase, Want, Opening, Have, State, state, step_of}
 use Rattle.gr_script.specs.Token.{Lexeme}
 use Rattle.gr_script.specs.declared.token.Token.TheVariants.{Symbol as symbol, Path as path}
-use Rattle.gr_script.specs.Trees.{chain, calculation, tested, signed, called, takes, link, term}
+use Rattle.gr_ast.specs.Trees.{link, term}
+use Rattle.gr_script.specs.Trees.{chain_of, calculation_of, tested, signed, called, takes}
 use Rattle.gr_script.specs.Words.{start_of, after_of, opens}
 use Rattle.gr_script.proofs.Climb.{rank, merge}
 use Rattle.gr_script.proofs.Taken.{free}
 use Rattle.gr_script.proofs.Begun.{hole, Completes, at_bottom, in_chain, in_test, in_calculation, in_sign, in_group, in_call}
 use Rattle.gr_script.proofs.Closing.{HasRoom, IsStack, Rests, reducing, reduces_stack}
 use Rattle.gr_script.proofs.Steps.{Goes, loose_hole, loose_test_hole, loose_number_hole, rank_pos}
-use Rattle.gr_text.specs.Reading.{Outcome, goes, deep, wrong, run}
+use Rattle.gr_text.specs.Inside.Reading.{Outcome, goes, deep, wrong, run}
 
 closing : Lexeme
 closing = record { at = 0; token = symbol s.Close }
@@ -88,8 +90,8 @@ further Between few = 4 - few
 further InValues few = 1
 
 enough : (call : Call) (at : ℕ) (args more : List Ast) (x : Ast) → HasRoom (Calling call at args) → length more ≡ further call (length args) → takes call (length (args ++ (x ∷ more))) ≡ true
-enough Between at args more x room e = eq-eqb _ 5 (omega (arith, length-append args (x ∷ more)))
-enough InValues at args more x room e = le-leb 2 _ (omega (arith, length-append args (x ∷ more)))
+enough Between at args more x room e = eq-eqb _ BETWEEN_ARGUMENTS (omega (arith, length-append args (x ∷ more)))
+enough InValues at args more x room e = le-leb LEAST_IN_VALUES _ (omega (arith, length-append args (x ∷ more)))
 
 pub record Finished (p : Part) (frames : List Frame) (levels : ℕ) (x : Ast) : Type 0 where
   pub whole : Ast
@@ -100,13 +102,13 @@ pub record Finished (p : Part) (frames : List Frame) (levels : ℕ) (x : Ast) : 
 pub finishing : (p : Part) (frames : List Frame) (levels : ℕ) (x : Ast) → IsStack p frames → Finished p frames levels x
 finishing p [] levels x s = record { whole = x; ts = []; completes = at_bottom (free levels x [] p script (rank_pos p)) }
 finishing p (Joining line first links join ∷ frames) levels x s =
-    let f = finishing (conditions line) frames levels (chain first (links ++ (link join x ∷ []))) s.2 in
+    let f = finishing (conditions line) frames levels (chain_of first (links ++ (link join x ∷ []))) s.2 in
     record { whole = f.whole; ts = f.ts; completes = in_chain (free levels x f.ts p (of_conditions line) s.0) no_link f.completes }
 finishing p (Testing test left ∷ frames) levels x s =
     let f = finishing comparison frames levels (tested test left x) s.2 in
     record { whole = f.whole; ts = f.ts; completes = in_test (free levels x f.ts p (numbers Sum) s.0) f.completes }
 finishing p (Combining line first terms sign ∷ frames) levels x s =
-    let f = finishing (numbers line) frames levels (calculation first (terms ++ (term sign x ∷ []))) s.2 in
+    let f = finishing (numbers line) frames levels (calculation_of first (terms ++ (term sign x ∷ []))) s.2 in
     record { whole = f.whole; ts = f.ts; completes = in_calculation (free levels x f.ts p (of_numbers line) s.0) no_term f.completes }
 finishing p (Signing sign at ∷ frames) levels x s =
     let f = finishing operand frames (suc levels) (signed sign at x) s.2 in
@@ -191,7 +193,7 @@ module _ (levels : ℕ) (x : Ast) (p : Part) where
   separate_stacked (Calling call at args ∷ frames) s = pick (takes_more call (suc (length args))) refl
     where
       room : (call : Call) → takes_more call (suc (length args)) ≡ true → HasRoom (Calling call at (args ++ (x ∷ [])))
-      room Between e = omega (arith, length-append args (x ∷ []), ltb-true (suc (length args)) 5 e)
+      room Between e = omega (arith, length-append args (x ∷ []), ltb-true (suc (length args)) BETWEEN_ARGUMENTS e)
       room InValues e = tt
 
       pick : (b : Bool) → takes_more call (suc (length args)) ≡ b → Stacked (cond b (goes (state Want (Calling call at (args ++ (x ∷ [])) ∷ frames) levels)) wrong)

@@ -1,9 +1,9 @@
 -- One more level lets each step go as before.
 use Rattle.std.proofs.Common.{◌≡◌, ℕ, zero, suc, Bool, true, false, cond, nat_lt, List, [], ◌∷◌, ◌++◌, length, refl, sym, ◌∙◌, ap, subst}
-use Rattle.gr_expr.specs.declared.ast.Arith.{Arith}
-use Rattle.gr_expr.specs.declared.ast.Ast.{Ast}
-use Rattle.gr_expr.specs.declared.ast.FieldOp.{FieldOp}
-use Rattle.gr_expr.specs.declared.ast.Join.{Join}
+use Rattle.gr_ast.specs.declared.operators.Arith.{Arith}
+use Rattle.gr_ast.specs.declared.ast.Ast.{Ast}
+use Rattle.gr_ast.specs.declared.operators.FieldOp.{FieldOp}
+use Rattle.gr_ast.specs.declared.operators.Join.{Join}
 use Rattle.gr_script.specs.declared.frame.Frame.{Frame}
 use Rattle.gr_script.specs.declared.frame.Frame.TheVariants.{Joining, Testing, Combining, Signing, Grouping, Calling}
 use Rattle.gr_script.specs.declared.grammar.After.{After}
@@ -14,12 +14,12 @@ use Rattle.gr_script.specs.declared.grammar.NumberLine.{NumberLine}
 use Rattle.gr_script.specs.declared.grammar.NumberLine.TheVariants.{Sum, Product}
 use Rattle.gr_script.specs.declared.grammar.Start.{Start}
 use Rattle.gr_script.specs.declared.grammar.Start.TheVariants as start
-use Rattle.gr_script.specs.Machine.{hold, closed, released, Held, reduced, join_on, test_on, combine_on, close_on, takes_more, separate_on, follows, begun, step, pull, Phase, Want, Opening, Have, State, state, step_of}
+use Rattle.gr_script.specs.Inside.Machine.{hold, closed, released, Held, reduced, join_on, test_on, combine_on, close_on, takes_more, separate_on, follows, begun, step, pull, Phase, Want, Opening, Have, State, state, step_of}
 use Rattle.gr_script.specs.Token.{Lexeme}
 use Rattle.gr_script.specs.Words.{start_of, after_of, opens}
 use Rattle.gr_script.specs.Trees.{takes, called}
 use Rattle.gr_text.proofs.Grammar.{Raises}
-use Rattle.gr_text.specs.Reading.{goes, wrong}
+use Rattle.gr_text.specs.Inside.Reading.{goes, wrong}
 
 -- a state with one level more to open
 abbrev pub raised_state : State → State

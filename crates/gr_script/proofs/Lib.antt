@@ -1,7 +1,7 @@
 pub mod Climb
 pub mod Taken
 pub mod Begun
-pub mod Rows
+pub mod Chains
 pub mod Closing
 pub mod Steps
 pub mod Going
@@ -14,3 +14,4 @@ pub mod ColumnsMade
 pub mod Told
 pub mod Tops
 pub mod Ends
+pub mod Longest

@@ -1,16 +1,16 @@
 -- A step of the reader of columns goes exactly where their grammar goes on.
 use Rattle.std.proofs.Common.{◌≡◌, ℕ, Bool, true, false, cond, codes, List, [], ◌∷◌, ◌++◌, append_assoc, append-nil, Option, Some, None, refl, sym, ◌∙◌, ap, subst}
-use Rattle.gr_script.specs.declared.column.MatchColumn.{MatchColumn}
+use Rattle.gr_ast.specs.declared.columns.MatchColumn.{MatchColumn}
 use Rattle.gr_script.specs.declared.column.Place.{Place}
 use Rattle.gr_script.specs.declared.column.Place.TheVariants.{Path, Behind, Weight, Weighted}
 use Rattle.gr_script.specs.declared.token.Symbol.TheVariants as s
 use Rattle.gr_script.specs.Columns.{column_word, weight_of, is_star, is_or, column, weighted, Columns, a_column, Weighing, no_weight, a_weight, Further, no_column, another, AreColumns}
-use Rattle.gr_script.specs.ColumnSteps.{State, state, path_read, weight_read, joined, column_step, columns_step_of, columns_begin, columns_end_of}
+use Rattle.gr_script.specs.Inside.ColumnSteps.{State, state, path_read, weight_read, joined, column_step, columns_step_of, columns_begin, columns_end_of}
 use Rattle.gr_script.specs.declared.token.Token.{Token}
 use Rattle.gr_script.specs.declared.token.Token.TheVariants.{Symbol as symbol, Digits as digits, Path as path}
 use Rattle.gr_script.specs.Token.{Lexeme}
 use Rattle.gr_text.proofs.Cases.{some_is, none_is, false_is}
-use Rattle.gr_text.specs.Reading.{Outcome, goes, deep, wrong, run}
+use Rattle.gr_text.specs.Inside.Reading.{Outcome, goes, deep, wrong, run}
 use Rattle.gr_text.specs.Sentences.{Begins}
 use Rattle.gr_text.proofs.Grammar.{IsGoing, end_of, Raises}
 

@@ -1,9 +1,9 @@
 -- Scripts, and what begins one, are what the reader goes through.
 use Rattle.std.proofs.Common.{◌≡◌, ℕ, List, [], ◌∷◌, ◌++◌, append-nil, Some, refl, sym, ap, subst, arith}
-use Rattle.gr_expr.specs.declared.ast.Ast.{Ast}
+use Rattle.gr_ast.specs.declared.ast.Ast.{Ast}
 use Rattle.gr_script.specs.declared.frame.Frame.{Frame}
-use Rattle.gr_script.specs.Grammar.{Part, operand, script, Reads, Arguments, no_argument, an_argument, Sentence}
-use Rattle.gr_script.specs.Machine.{begin, reduced, step, whole, finished, Phase, Want, Opening, Have, State, state, step_of, finished_of}
+use Rattle.gr_script.specs.Grammar.{Part, operand, script, Parses, Arguments, no_argument, an_argument, Sentence}
+use Rattle.gr_script.specs.Inside.Machine.{begin, reduced, step, whole, finished, Phase, Want, Opening, Have, State, state, step_of, finished_of}
 use Rattle.gr_script.specs.Token.{Lexeme}
 use Rattle.gr_text.proofs.Cases.{some_is, none_is, empty_is}
 use Rattle.gr_script.proofs.Climb.{tightness_above, Climbs, still, split, merge}
@@ -12,7 +12,7 @@ use Rattle.gr_script.proofs.Going.{ending, Stacked, step_stacked, run_stacked}
 use Rattle.gr_script.proofs.Begun.{Completes, at_bottom, in_chain, in_test, in_calculation, in_sign, in_group, in_call, Wants}
 use Rattle.gr_script.proofs.Steps.{Goes, GoesOn, step_to, step_from, loose_line, rank_pos}
 use Rattle.gr_script.proofs.Taken.{free}
-use Rattle.gr_text.specs.Reading.{Outcome, goes, deep, wrong, run}
+use Rattle.gr_text.specs.Inside.Reading.{Outcome, goes, deep, wrong, run}
 use Rattle.gr_text.specs.Sentences.{Begins}
 use Rattle.gr_text.proofs.Grammar.{IsGoing, end_of}
 
@@ -30,7 +30,7 @@ run_from w (t ∷ ts) more (goes (state phase frames levels)) s m =
 run_from w (t ∷ ts) more deep s m = m
 run_from w (t ∷ ts) more wrong s m = m
 
-no_operand : {levels : ℕ} {x : Ast} {us : List Lexeme} → Reads operand levels [] x us → ⊥
+no_operand : {levels : ℕ} {x : Ast} {us : List Lexeme} → Parses operand levels [] x us → ⊥
 no_operand r = elim r [ ]
 
 bottom_to : {w : Ast} {p : Part} {frames : List Frame} {levels : ℕ} {x : Ast} → Completes w p frames levels x [] → Rests 0 frames → whole x frames ≡ Some w
@@ -82,7 +82,7 @@ sentence_goes levels ts w r = let o = split r in record { tree = o.0; rest = o.1
 goes_sentence : (levels : ℕ) (ts : List Lexeme) (w : Ast) → Wants w [] levels ts → Sentence levels ts w
 goes_sentence levels ts w m = go m.reads m.completes
   where
-    go : {x : Ast} {us : List Lexeme} → Reads operand levels ts x us → Completes w operand [] levels x us → Sentence levels ts w
+    go : {x : Ast} {us : List Lexeme} → Parses operand levels ts x us → Completes w operand [] levels x us → Sentence levels ts w
     go r (at_bottom c) = merge r c
 
 -- the tokens are a script exactly where the reader ends with its tree

@@ -2,10 +2,11 @@
 use Rattle.std.proofs.Common.{◌≡◌, ◌<◌, ◌≤◌, ℕ, zero, suc, Bool, true, false, cond, List, [], ◌∷◌, ◌++◌, length, length-append, append_assoc, refl, sym, ◌∙◌, ap, subst, arith}
 use Rattle.std.proofs.lemmas.Bool.{lt-ltb, eqb-true}
 use mathlib.Core.Path.{subst₂}
-use Rattle.gr_expr.specs.declared.ast.Arith.{Arith}
-use Rattle.gr_expr.specs.declared.ast.Ast.{Ast}
-use Rattle.gr_expr.specs.declared.ast.FieldOp.{FieldOp}
-use Rattle.gr_expr.specs.declared.ast.Join.{Join}
+use Rattle.gr_ast.specs.declared.operators.Arith.{Arith}
+use Rattle.gr_ast.specs.declared.ast.Ast.{Ast}
+use Rattle.gr_ast.specs.declared.limits.TheConstants.{BETWEEN_ARGUMENTS}
+use Rattle.gr_ast.specs.declared.operators.FieldOp.{FieldOp}
+use Rattle.gr_ast.specs.declared.operators.Join.{Join}
 use Rattle.gr_script.specs.declared.frame.Frame.{Frame}
 use Rattle.gr_script.specs.declared.frame.Frame.TheVariants.{Joining, Testing, Combining, Signing, Grouping, Calling}
 use Rattle.gr_script.specs.declared.grammar.After.{After}
@@ -19,8 +20,8 @@ use Rattle.gr_script.specs.declared.grammar.NumberLine.TheVariants.{Sum, Product
 use Rattle.gr_script.specs.declared.grammar.Sign.{Sign}
 use Rattle.gr_script.specs.declared.grammar.Start.{Start}
 use Rattle.gr_script.specs.declared.grammar.Start.TheVariants as start
-use Rattle.gr_script.specs.Grammar.{Part, conditions, comparison, numbers, operand, script, Reads, a_leaf, a_sign, a_group, a_call, Arguments, no_argument, an_argument, of_numbers}
-use Rattle.gr_script.specs.Machine.{tightness, number_tightness, pull, Held, reduced, join_on, test_on, combine_on, close_on, takes_more, separate_on, follows, begun, step, Phase, Want, Opening, Have, State, state}
+use Rattle.gr_script.specs.Grammar.{Part, conditions, comparison, numbers, operand, script, Parses, a_leaf, a_sign, a_group, a_call, Arguments, no_argument, an_argument, of_numbers}
+use Rattle.gr_script.specs.Inside.Machine.{tightness, number_tightness, pull, Held, reduced, join_on, test_on, combine_on, close_on, takes_more, separate_on, follows, begun, step, Phase, Want, Opening, Have, State, state}
 use Rattle.gr_script.specs.Token.{Lexeme}
 use Rattle.gr_script.specs.Trees.{called, takes}
 use Rattle.gr_script.specs.Words.{start_of, after_of, opens}
@@ -28,9 +29,9 @@ use Rattle.gr_text.proofs.Cases.{false_is, head_is, tail_is, empty_is}
 use Rattle.gr_script.proofs.Climb.{rank, tightness_below, tightness_above, here, still, split, merge, rank-of_numbers}
 use Rattle.gr_script.proofs.Taken.{free}
 use Rattle.gr_script.proofs.Begun.{hole, Completes, at_bottom, in_chain, in_test, in_calculation, in_sign, in_group, in_call, Wants}
-use Rattle.gr_script.proofs.Rows.{link_begins, link_begun, link_extends, link_extended, test_begins, test_begun, test_ends, term_begins, term_begun, term_extends, term_extended}
+use Rattle.gr_script.proofs.Chains.{link_begins, link_begun, link_extends, link_extended, test_begins, test_begun, test_ends, term_begins, term_begun, term_extends, term_extended}
 use Rattle.gr_script.proofs.Closing.{IsStack, Rests, reducing, reduces_to, reduces_from, reduces_rank}
-use Rattle.gr_text.specs.Reading.{Outcome, goes, deep, wrong}
+use Rattle.gr_text.specs.Inside.Reading.{Outcome, goes, deep, wrong}
 
 -- the bracket that opens a call's arguments comes next
 abbrev pub Opens : Ast → List Frame → ℕ → List Lexeme → Type 0
@@ -48,13 +49,13 @@ GoesOn w (goes (state phase frames levels)) ts = Goes w phase frames levels ts
 GoesOn w deep ts = ⊥
 GoesOn w wrong ts = ⊥
 
--- no row of this line is the last begun part
-abbrev pub NoRow : ConditionLine → List Frame → Type 0
-NoRow Any (Joining Any first links join ∷ frames) = ⊥
-NoRow All (Joining All first links join ∷ frames) = ⊥
-NoRow line frames = Unit {0}
+-- no chain of this line is the last begun part
+abbrev pub NoChain : ConditionLine → List Frame → Type 0
+NoChain Any (Joining Any first links join ∷ frames) = ⊥
+NoChain All (Joining All first links join ∷ frames) = ⊥
+NoChain line frames = Unit {0}
 
-pub loose_hole : (line : ConditionLine) (frames : List Frame) → NoRow line frames → Rests (tightness line) frames → rank (hole frames) ≤ tightness line
+pub loose_hole : (line : ConditionLine) (frames : List Frame) → NoChain line frames → Rests (tightness line) frames → rank (hole frames) ≤ tightness line
 loose_hole Any (Joining Any first links join ∷ frames) n r = absurd n
 loose_hole All (Joining All first links join ∷ frames) n r = absurd n
 loose_hole Any (Combining over first terms sign ∷ frames) n r = absurd (omega (arith, tightness_above over))
@@ -72,12 +73,12 @@ loose_test_hole (Joining All first links join ∷ frames) n r = omega arith
 loose_test_hole (Combining over first terms sign ∷ frames) n r = absurd (omega (arith, tightness_above over))
 loose_test_hole frames n r = omega arith
 
-abbrev pub NoNumbers : NumberLine → List Frame → Type 0
-NoNumbers Sum (Combining Sum first terms sign ∷ frames) = ⊥
-NoNumbers Product (Combining Product first terms sign ∷ frames) = ⊥
-NoNumbers line frames = Unit {0}
+abbrev pub NoCalculation : NumberLine → List Frame → Type 0
+NoCalculation Sum (Combining Sum first terms sign ∷ frames) = ⊥
+NoCalculation Product (Combining Product first terms sign ∷ frames) = ⊥
+NoCalculation line frames = Unit {0}
 
-pub loose_number_hole : (line : NumberLine) (frames : List Frame) → NoNumbers line frames → Rests (number_tightness line) frames → rank (hole frames) ≤ number_tightness line
+pub loose_number_hole : (line : NumberLine) (frames : List Frame) → NoCalculation line frames → Rests (number_tightness line) frames → rank (hole frames) ≤ number_tightness line
 loose_number_hole Sum (Combining Sum first terms sign ∷ frames) n r = absurd n
 loose_number_hole Product (Combining Product first terms sign ∷ frames) n r = absurd n
 loose_number_hole line (Joining Any first links join ∷ frames) n r = omega (arith, tightness_above line)
@@ -126,7 +127,7 @@ rank_pos operand = omega arith
 
 -- a call that takes two more takes one more
 more_room : (call : Call) (count few : ℕ) → takes call count ≡ true → suc (suc few) ≤ count → takes_more call (suc few) ≡ true
-more_room Between count few k h = lt-ltb (suc few) 5 (omega (arith, eqb-true count 5 k))
+more_room Between count few k h = lt-ltb (suc few) BETWEEN_ARGUMENTS (omega (arith, eqb-true count BETWEEN_ARGUMENTS k))
 more_room InValues count few k h = refl
 
 -- a token that binds nothing, behind an operand whose tighter parts are closed
@@ -185,7 +186,7 @@ module _ {w : Ast} {levels : ℕ} {x : Ast} {t : Lexeme} {us : List Lexeme} {p :
       goes_on {rest = rest} (an_argument {us = after} {tree = tree} {more = more} h o a) same k m =
           let count = length-append args (y ∷ tree ∷ more) in
           let room : takes_more call (suc (length args)) ≡ true = more_room call _ (length args) k (omega arith) in
-          let begin = split (subst (λ v. Reads script levels v tree after) (tail_is same) o) in
+          let begin = split (subst (λ v. Parses script levels v tree after) (tail_is same) o) in
           let list : args ++ (y ∷ tree ∷ more) ≡ (args ++ (x ∷ [])) ++ (tree ∷ more) = ap (λ z. args ++ (z ∷ tree ∷ more)) s.0 ∙ sym (append_assoc args (x ∷ []) (tree ∷ more)) in
           subst (λ b. GoesOn w (cond b next wrong) us) (sym room)
           (record { tree = begin.0; rest = begin.1; reads = begin.2; completes = in_call begin.3 a (sym (ap (λ xs. takes call (length xs)) list) ∙ k) (subst (λ xs. Completes w operand frames (suc levels) (called call at xs) rest) list m) })
@@ -232,7 +233,7 @@ module _ {w : Ast} {levels : ℕ} {x : Ast} {t : Lexeme} {us : List Lexeme} {p :
   separate_from : (frames : List Frame) → after_of t ≡ after.Separates → GoesOn w (separate_on x frames levels) us → Completes w p frames levels x (t ∷ us)
   separate_from (Calling call at args ∷ frames) e m = pick (takes_more call (suc (length args))) m
     where
-      back : {o : Ast} {vs : List Lexeme} → Reads operand levels us o vs → Completes w operand (Calling call at (args ++ (x ∷ [])) ∷ frames) levels o vs → Completes w p (Calling call at args ∷ frames) levels x (t ∷ us)
+      back : {o : Ast} {vs : List Lexeme} → Parses operand levels us o vs → Completes w operand (Calling call at (args ++ (x ∷ [])) ∷ frames) levels o vs → Completes w p (Calling call at args ∷ frames) levels x (t ∷ us)
       back r (in_call {y = y} {rest = rest} {more = more} c a k m) =
           let list : (args ++ (x ∷ [])) ++ (y ∷ more) ≡ args ++ (x ∷ y ∷ more) = append_assoc args (x ∷ []) (y ∷ more) in
           in_call (free levels x (t ∷ us) p script (rank_pos p)) (an_argument e (merge r c) a) (sym (ap (λ xs. takes call (length xs)) list) ∙ k) (subst (λ xs. Completes w operand frames (suc levels) (called call at xs) rest) list m)
@@ -279,7 +280,7 @@ module _ (w : Ast) (frames : List Frame) (levels : ℕ) (t : Lexeme) (us : List 
       let r = reducing (pull (after_of t)) operand x frames levels in
       reduces_from r.steps refl s (placed_from w t us r.part (reduced (pull (after_of t)) x frames levels) (after_of t) refl (reduces_rank r.steps (pull_below (after_of t))) m)
 
-want_to : {w : Ast} {frames : List Frame} {levels : ℕ} {t : Lexeme} {ts us : List Lexeme} {x : Ast} → Reads operand levels (t ∷ ts) x us → Completes w operand frames levels x us → GoesOn w (begun (start_of t) t.at frames levels) ts
+want_to : {w : Ast} {frames : List Frame} {levels : ℕ} {t : Lexeme} {ts us : List Lexeme} {x : Ast} → Parses operand levels (t ∷ ts) x us → Completes w operand frames levels x us → GoesOn w (begun (start_of t) t.at frames levels) ts
 want_to {w} {frames} {levels} {t} {ts} (a_leaf e) m = subst (λ s. GoesOn w (begun s t.at frames levels) ts) (sym e) m
 want_to {w} {frames} {t = t} {ts = ts} (a_sign {levels = levels} {rest = rest} {of = of} e r) m =
     subst (λ s. GoesOn w (begun s t.at frames (suc levels)) ts) (sym e) (record { tree = of; rest = rest; reads = r; completes = in_sign here m })
@@ -291,13 +292,13 @@ want_to {w} {frames} {t = t} (a_call {levels = levels} {u = u} {ts = ts} e o r a
     subst (λ s. GoesOn w (begun s t.at frames (suc levels)) (u ∷ ts)) (sym e) (o, record { tree = b.0; rest = b.1; reads = b.2; completes = in_call b.3 a k m })
 
 module _ {w : Ast} {frames : List Frame} {levels : ℕ} {t : Lexeme} where
-  sign_from : {sign : Sign} {ts us : List Lexeme} {x : Ast} → start_of t ≡ start.Signed sign → Reads operand levels ts x us → Completes w operand (Signing sign t.at ∷ frames) levels x us → Wants w frames (suc levels) (t ∷ ts)
+  sign_from : {sign : Sign} {ts us : List Lexeme} {x : Ast} → start_of t ≡ start.Signed sign → Parses operand levels ts x us → Completes w operand (Signing sign t.at ∷ frames) levels x us → Wants w frames (suc levels) (t ∷ ts)
   sign_from e r (in_sign c m) = record { tree = _; rest = _; reads = a_sign e (merge r c); completes = m }
 
-  group_from : {ts us : List Lexeme} {x : Ast} → start_of t ≡ start.Grouped → Reads operand levels ts x us → Completes w operand (Grouping ∷ frames) levels x us → Wants w frames (suc levels) (t ∷ ts)
+  group_from : {ts us : List Lexeme} {x : Ast} → start_of t ≡ start.Grouped → Parses operand levels ts x us → Completes w operand (Grouping ∷ frames) levels x us → Wants w frames (suc levels) (t ∷ ts)
   group_from e r (in_group c k m) = record { tree = _; rest = _; reads = a_group e (merge r c) k; completes = m }
 
-  call_from : {call : Call} {u : Lexeme} {ts us : List Lexeme} {x : Ast} → start_of t ≡ start.Called call → opens u.token ≡ true → Reads operand levels ts x us → Completes w operand (Calling call t.at [] ∷ frames) levels x us → Wants w frames (suc levels) (t ∷ u ∷ ts)
+  call_from : {call : Call} {u : Lexeme} {ts us : List Lexeme} {x : Ast} → start_of t ≡ start.Called call → opens u.token ≡ true → Parses operand levels ts x us → Completes w operand (Calling call t.at [] ∷ frames) levels x us → Wants w frames (suc levels) (t ∷ u ∷ ts)
   call_from e o r (in_call c a k m) = record { tree = _; rest = _; reads = a_call e o (merge r c) a k; completes = m }
 
 want_from : (w : Ast) (frames : List Frame) (levels : ℕ) (t : Lexeme) (ts : List Lexeme) (s : Start) → start_of t ≡ s → GoesOn w (begun s t.at frames levels) ts → Wants w frames levels (t ∷ ts)

@@ -5,7 +5,7 @@ use Rattle.std.proofs.lemmas.List.{reverse-append}
 use Rattle.std.proofs.lemmas.List.Sums.{sum_by-set}
 use Rattle.std.specs.List.{sum_by}
 use Rattle.gr_script.specs.declared.frame.Frame.{Frame}
-use Rattle.gr_script.specs.Machine.{level, on_top}
+use Rattle.gr_script.specs.Inside.Machine.{level, on_top}
 
 -- a list with something in it, as its last and what stands before
 record Ends {X : Type 0} (xs : List X) : Type 0 where

@@ -1,15 +1,16 @@
 -- The grammar of match columns, and what the tokens of a text are by it.
-use Rattle.std.specs.Prelude.{◌≡◌, ◌≤◌, ℕ, Bool, true, false, ◌&&◌, nat_le, min, not, unwrap_or, is_some, if◌then◌else◌, Option, Some, None, List, [], ◌∷◌, IsUtf8}
+use Rattle.std.specs.Prelude.{◌≡◌, ◌-◌, ◌^◌, ℕ, Bool, true, false, ◌&&◌, nat_le, min, not, unwrap_or, is_some, if◌then◌else◌, Option, Some, None, List, [], ◌∷◌}
 use Rattle.gr_base.specs.declared.fault.FaultKind.{FaultKind}
 use Rattle.gr_base.specs.declared.fault.FaultKind.TheVariants.{BadScript}
-use Rattle.gr_script.specs.declared.column.MatchColumn.{MatchColumn}
+use Rattle.gr_ast.specs.declared.columns.MatchColumn.{MatchColumn}
+use Rattle.gr_ast.specs.declared.limits.TheConstants.{LEAST_WEIGHT, MOST_WEIGHT}
 use Rattle.gr_script.specs.declared.token.Symbol.TheVariants as s
 use Rattle.gr_script.specs.declared.token.Token.{Token}
 use Rattle.gr_script.specs.declared.token.Token.TheVariants.{Symbol as symbol, Digits as digits, Text as text, Path as path}
 use Rattle.gr_script.specs.Token.{Lexeme}
 use Rattle.gr_script.specs.Words.{greatest, reserved}
 use Rattle.gr_text.specs.Cut.{Cut}
-use Rattle.gr_text.specs.declared.fault.TextFault.{TextFault}
+use Rattle.gr_text.specs.Fault.{TextFault}
 use Rattle.gr_text.specs.Sentences as of_grammar
 
 -- a column's path
@@ -21,7 +22,7 @@ column_word (path word) = if is_some (reserved word) then None else Some word
 
 -- A weight. One above the greatest of 32 bits stands as that one: no text that has one has columns.
 abbrev pub weight_of : Token → Option ℕ
-weight_of (digits value) = Some (min (unwrap_or value greatest) 4294967295)
+weight_of (digits value) = Some (min (unwrap_or value greatest) (2 ^ 32 - 1))
 weight_of _ = None
 
 -- whether a token is the mark before a weight
@@ -45,7 +46,7 @@ weighted weight of = record { path = of.path; at = of.at; weight = weight }
 mutual
   -- the tokens are these columns, joined by `||`
   pub data Columns : List Lexeme → List MatchColumn → Type 0 where
-    a_column : {t : Lexeme} {ts : List Lexeme} {word : List ℕ} {columns : List MatchColumn} → column_word t.token ≡ Some word → Weighing (column word t.at 1) ts columns → Columns (t ∷ ts) columns
+    a_column : {t : Lexeme} {ts : List Lexeme} {word : List ℕ} {columns : List MatchColumn} → column_word t.token ≡ Some word → Weighing (column word t.at LEAST_WEIGHT) ts columns → Columns (t ∷ ts) columns
 
   -- behind a column's path, the tokens are its weight, or no weight, and further columns
   pub data Weighing : MatchColumn → List Lexeme → List MatchColumn → Type 0 where
@@ -65,7 +66,7 @@ AreColumns levels ts columns = Columns ts columns
 abbrev pub is_no_weight : Token → Bool
 is_no_weight (symbol mark) = false
 is_no_weight (digits None) = true
-is_no_weight (digits (Some n)) = not (nat_le 1 n && nat_le n 1000)
+is_no_weight (digits (Some n)) = not (nat_le LEAST_WEIGHT n && nat_le n MOST_WEIGHT)
 is_no_weight (text bytes) = false
 is_no_weight (path word) = false
 
@@ -80,14 +81,3 @@ AreRefused cut kind at = of_grammar.IsRefused AreColumns is_no_weight BadScript 
 -- What is cut so is refused as the fault says. Nothing is said of want of memory.
 abbrev pub AreRefusal : Cut Token → TextFault → Type 0
 AreRefusal cut fault = of_grammar.IsRefusal AreColumns is_no_weight BadScript cut fault
-
--- the paths are UTF-8, and each weight is 1 to 1,000
-pub record IsMadeColumn (of : MatchColumn) : Type 0 where
-  pub path : IsUtf8 of.path
-  pub least : 1 ≤ of.weight
-  pub most : of.weight ≤ 1000
-
--- each column is well made
-abbrev pub AreMadeColumns : List MatchColumn → Type 0
-AreMadeColumns [] = Unit {0}
-AreMadeColumns (first ∷ rest) = IsMadeColumn first × AreMadeColumns rest

@@ -1,9 +1,9 @@
 pub mod Token
+pub mod Precedence
 pub mod Words
 pub mod Trees
 pub mod Grammar
+pub mod Longest
 pub mod Text
 pub mod Columns
-pub mod ColumnSteps
-pub mod Made
-pub mod Machine
+pub mod Inside

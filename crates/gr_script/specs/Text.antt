@@ -2,13 +2,13 @@
 use Rattle.std.specs.Prelude.{ℕ}
 use Rattle.gr_base.specs.declared.fault.FaultKind.{FaultKind}
 use Rattle.gr_base.specs.declared.fault.FaultKind.TheVariants.{BadScript}
-use Rattle.gr_expr.specs.declared.ast.Ast.{Ast}
+use Rattle.gr_ast.specs.declared.ast.Ast.{Ast}
 use Rattle.gr_script.specs.Grammar.{Sentence}
 use Rattle.gr_script.specs.Words.{is_large}
 use Rattle.gr_script.specs.declared.token.Token.{Token}
 use Rattle.gr_text.specs.Cut.{Cut}
 use Rattle.gr_text.specs.Sentences as of_grammar
-use Rattle.gr_text.specs.declared.fault.TextFault.{TextFault}
+use Rattle.gr_text.specs.Fault.{TextFault}
 
 -- what is cut so is a script of this tree, in which no number is too large
 abbrev pub IsScript : Cut Token → Ast → Type 0

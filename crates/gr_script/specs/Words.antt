@@ -1,12 +1,12 @@
 -- What the grammar asks of a token: what an operand may begin with, and what may follow one.
-use Rattle.std.specs.Prelude.{ℕ, Bool, true, false, List, Option, Some, None, unwrap_or, codes, if◌then◌else◌}
+use Rattle.std.specs.Prelude.{ℕ, ◌-◌, ◌^◌, Bool, true, false, List, Option, Some, None, unwrap_or, codes, if◌then◌else◌}
 use Rattle.std.specs.Str.{bytes_eq}
 use Rattle.gr_base.specs.declared.compare.Cmp.TheVariants as cmp
-use Rattle.gr_expr.specs.declared.ast.Ast.TheVariants as ast
-use Rattle.gr_expr.specs.declared.ast.Arith.TheVariants.{Add, Sub, Mul, Div, Rem}
-use Rattle.gr_expr.specs.declared.ast.FieldOp.TheVariants.{Compare, Find}
-use Rattle.gr_expr.specs.declared.ast.Join.TheVariants as join
-use Rattle.gr_expr.specs.declared.ast.Seek.TheVariants as seek
+use Rattle.gr_ast.specs.declared.ast.Ast.TheVariants as ast
+use Rattle.gr_ast.specs.declared.operators.Arith.TheVariants.{Add, Sub, Mul, Div, Rem}
+use Rattle.gr_ast.specs.declared.operators.FieldOp.TheVariants.{Compare, Find}
+use Rattle.gr_ast.specs.declared.operators.Join.TheVariants as join
+use Rattle.gr_ast.specs.declared.operators.Seek.TheVariants as seek
 use Rattle.gr_script.specs.declared.grammar.After.{After}
 use Rattle.gr_script.specs.declared.grammar.After.TheVariants as after
 use Rattle.gr_script.specs.declared.grammar.Call.TheVariants.{Between, InValues}
@@ -25,7 +25,7 @@ use Rattle.gr_script.specs.Token.{Lexeme}
 
 -- the greatest number of 64 bits
 abbrev pub greatest : ℕ
-greatest = 18446744073709551615
+greatest = 2 ^ 64 - 1
 
 -- what a word means that is no path by itself: a truth, or a call's name
 abbrev pub reserved : List ℕ → Option Reserved

@@ -1,20 +1,6 @@
-// The columns that a query's words are sought in.
+// What comes next in a list of match columns.
 
-use gr_base::{Bytes, ListOf};
-
-/// A column that a query's words are sought in.
-#[derive(Drop)]
-pub struct MatchColumn {
-    /// Its path, as it is written.
-    pub path: Bytes,
-    /// The byte place of its path.
-    pub at: u64,
-    /// By what its score is multiplied, 1 to 1,000.
-    pub weight: u32,
-}
-
-/// The columns that a query's words are sought in, in order.
-pub type MatchColumns = ListOf<MatchColumn>;
+use gr_ast::MatchColumn;
 
 /// What comes next in a list of columns.
 #[derive(Drop)]

@@ -1,13 +1,14 @@
 // How match columns are read from the left in one pass: a step for each token.
 ghost use Rattle.std.specs.Prelude.{◌≡◌, List, Some};
-ghost use Rattle.gr_script.specs.declared.column.MatchColumn.{MatchColumn as Column};
+ghost use Rattle.gr_ast.specs.declared.columns.MatchColumn.{MatchColumn as Column};
 ghost use Rattle.gr_script.specs.Columns.{column_word, weight_of, is_star, is_or};
-ghost use Rattle.gr_script.specs.ColumnSteps.{Steps, column_step, path_read, weight_read, joined};
+ghost use Rattle.gr_script.specs.Inside.ColumnSteps.{Steps, column_step, path_read, weight_read, joined};
 ghost use Rattle.gr_text.specs.Lexing.{placed};
 
-use crate::column::{MatchColumn, Place};
+use crate::column::Place;
 use crate::token::{Symbol, Token};
 use crate::words::reserved;
+use gr_ast::{LEAST_WEIGHT, MatchColumn};
 use gr_text::{Lexeme, Stop};
 
 /// The next token.
@@ -45,7 +46,7 @@ fn path_read(lexeme: Lexeme<Token>) -> Result<Place, Stop>
                 Ok(Place::Behind(MatchColumn {
                     path,
                     at,
-                    weight: 1,
+                    weight: LEAST_WEIGHT,
                 }))
             }
         }
@@ -72,7 +73,7 @@ fn weight(value: Option<u64>) -> u32
     ensures { weight_of (Token.Digits value) ≡ Some result }
 {
     match value {
-        Some(value) if value < 4_294_967_295 => value as u32,
+        Some(value) if value < u64::from(u32::MAX) => value as u32,
         _ => u32::MAX,
     }
 }

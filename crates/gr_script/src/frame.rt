@@ -1,10 +1,12 @@
 // What the reader keeps of a script while it reads on: parts that are begun and not finished.
 ghost use Rattle.std.specs.Prelude.{◌≡◌, ◌∷◌, OnOk};
-ghost use Rattle.gr_script.specs.Machine.{IsCall, IsNumberRow, IsRow, argued, combined, level, linked};
+ghost use Rattle.gr_script.specs.Precedence.{rank};
+ghost use Rattle.gr_script.specs.Inside.Machine.{IsCall, IsCalculation, IsChain, argued, combined, level, linked};
 
 use crate::grammar::{Call, ConditionLine, NumberLine, Sign};
+use crate::precedence::Precedence;
+use gr_ast::{Arith, Ast, Combined, FieldOp, Join, Joined};
 use gr_base::NoMemory;
-use gr_expr::{Arith, Ast, Combined, FieldOp, Join, Joined};
 use sqlite_items::{Boxed, Items};
 
 /// A part that is begun, and waits for the operand that is being read.
@@ -45,19 +47,19 @@ pub(crate) enum Frame {
 }
 
 impl Frame {
-    ghost use Rattle.gr_script.specs.Machine.{hold, level};
+    ghost use Rattle.gr_script.specs.Inside.Machine.{hold, level};
 
     /// How tightly it binds what is read in it; brackets do not.
-    pub(crate) fn hold(&self) -> u64
-        ensures { result ≡ hold self.now }
+    pub(crate) fn hold(&self) -> Precedence
+        ensures { rank result ≡ hold self.now }
     {
         match self {
-            Frame::Joining { line, .. } => line.tightness(),
-            Frame::Testing { .. } => 3,
-            Frame::Combining { line, .. } => line.tightness(),
-            Frame::Signing { .. } => 6,
-            Frame::Grouping => 0,
-            Frame::Calling { .. } => 0,
+            Frame::Joining { line, .. } => line.precedence(),
+            Frame::Testing { .. } => Precedence::Comparison,
+            Frame::Combining { line, .. } => line.precedence(),
+            Frame::Signing { .. } => Precedence::Sign,
+            Frame::Grouping => Precedence::Bracket,
+            Frame::Calling { .. } => Precedence::Bracket,
         }
     }
 
@@ -75,9 +77,9 @@ impl Frame {
         }
     }
 
-    /// One more condition of a row, with the sign behind it.
+    /// One more condition of a chain, with the sign behind it.
     pub(crate) fn link(&mut self, join: Join, tree: Ast) -> Result<(), NoMemory>
-        requires { IsRow self.old }
+        requires { IsChain self.old }
         ensures made { OnOk result (self.new ≡ linked join tree self.old) }
         ensures level { level self.new ≡ level self.old }
     {
@@ -98,9 +100,9 @@ impl Frame {
         }
     }
 
-    /// One more number of a row, with the sign behind it.
+    /// One more number of a calculation, with the sign behind it.
     pub(crate) fn combine(&mut self, arith: Arith, tree: Ast) -> Result<(), NoMemory>
-        requires { IsNumberRow self.old }
+        requires { IsCalculation self.old }
         ensures made { OnOk result (self.new ≡ combined arith tree self.old) }
         ensures level { level self.new ≡ level self.old }
     {

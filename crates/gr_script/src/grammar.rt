@@ -1,7 +1,9 @@
 // What the grammar asks of a token.
 ghost use Rattle.std.specs.Prelude.{◌≡◌};
+ghost use Rattle.gr_script.specs.Precedence.{rank};
 
-use gr_expr::{Arith, Ast, FieldOp, Join};
+use crate::precedence::Precedence;
+use gr_ast::{Arith, Ast, FieldOp, Join};
 
 /// The lines of the grammar that join conditions.
 #[derive(Clone, Copy, Debug, PartialEq, Eq)]
@@ -13,15 +15,15 @@ pub(crate) enum ConditionLine {
 }
 
 impl ConditionLine {
-    ghost use Rattle.gr_script.specs.Machine.{tightness};
+    ghost use Rattle.gr_script.specs.Inside.Machine.{tightness};
 
     /// How tightly it binds.
-    pub(crate) fn tightness(self) -> u64
-        ensures { result ≡ tightness self }
+    pub(crate) fn precedence(self) -> Precedence
+        ensures { rank result ≡ tightness self }
     {
         match self {
-            ConditionLine::Any => 1,
-            ConditionLine::All => 2,
+            ConditionLine::Any => Precedence::Any,
+            ConditionLine::All => Precedence::All,
         }
     }
 }
@@ -36,15 +38,15 @@ pub(crate) enum NumberLine {
 }
 
 impl NumberLine {
-    ghost use Rattle.gr_script.specs.Machine.{number_tightness};
+    ghost use Rattle.gr_script.specs.Inside.Machine.{number_tightness};
 
     /// How tightly it binds.
-    pub(crate) fn tightness(self) -> u64
-        ensures { result ≡ number_tightness self }
+    pub(crate) fn precedence(self) -> Precedence
+        ensures { rank result ≡ number_tightness self }
     {
         match self {
-            NumberLine::Sum => 4,
-            NumberLine::Product => 5,
+            NumberLine::Sum => Precedence::Sum,
+            NumberLine::Product => Precedence::Product,
         }
     }
 }
@@ -109,19 +111,19 @@ pub(crate) enum After {
 }
 
 impl After {
-    ghost use Rattle.gr_script.specs.Machine.{pull};
+    ghost use Rattle.gr_script.specs.Inside.Machine.{pull};
 
     /// How tightly it binds the operand before it.
-    pub(crate) fn pull(self) -> u64
-        ensures { result ≡ pull self }
+    pub(crate) fn pull(self) -> Precedence
+        ensures { rank result ≡ pull self }
     {
         match self {
-            After::Closes => 0,
-            After::Separates => 0,
-            After::Joins(line, _) => line.tightness(),
-            After::Tests(_) => 3,
-            After::Combines(line, _) => line.tightness(),
-            After::Nothing => 0,
+            After::Closes => Precedence::Bracket,
+            After::Separates => Precedence::Bracket,
+            After::Joins(line, _) => line.precedence(),
+            After::Tests(_) => Precedence::Comparison,
+            After::Combines(line, _) => line.precedence(),
+            After::Nothing => Precedence::Bracket,
         }
     }
 }

@@ -7,6 +7,8 @@ mod columns;
 mod frame;
 mod grammar;
 mod match_columns;
+mod parts;
+mod precedence;
 mod reader;
 mod script;
 mod stack;
@@ -18,7 +20,7 @@ mod tokenizer;
 mod trees;
 mod words;
 
-pub use answers::{one_answer_as_columns, one_answer_as_script};
-pub use column::{MatchColumn, MatchColumns};
+pub use answers::{longest_token, one_answer_as_columns, one_answer_as_script};
+pub use gr_ast::{MatchColumn, MatchColumns};
 pub use match_columns::parse_columns;
 pub use script::parse;

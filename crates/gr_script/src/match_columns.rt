@@ -1,14 +1,16 @@
 // From the text of match columns to the columns, or to its fault.
 ghost use Rattle.std.specs.Prelude.{◌≡◌, IfErr, IfOk};
 ghost use Rattle.gr_text.specs.Lexing.{placed};
-ghost use Rattle.gr_text.specs.Reading.{Answers};
-ghost use Rattle.gr_script.specs.ColumnSteps.{columns_step_of};
-ghost use Rattle.gr_script.specs.Columns.{AreMadeColumns, AreRefusal, IsColumns, is_no_weight};
+ghost use Rattle.gr_text.specs.Inside.Reading.{Answers};
+ghost use Rattle.gr_script.specs.Inside.ColumnSteps.{columns_step_of};
+ghost use Rattle.gr_ast.specs.Columns.{AreMadeColumns};
+ghost use Rattle.gr_script.specs.Columns.{AreRefusal, IsColumns, is_no_weight};
 ghost use Rattle.gr_script.specs.Token.{tokens_of};
 
-use crate::column::{MatchColumn, MatchColumns, Place};
+use crate::column::Place;
 use crate::columns::column_step;
 use crate::token::Token;
+use gr_ast::{LEAST_WEIGHT, MOST_WEIGHT, MatchColumn, MatchColumns};
 use gr_base::{FaultKind, ListOf};
 use gr_text::{Lexeme, Reader, Stop, TextFault, read};
 use std::alloc::Global;
@@ -24,7 +26,7 @@ pub fn parse_columns(alloc: Global, text: &str) -> Result<MatchColumns, TextFaul
     read(alloc, ColumnsReader::new(alloc), FaultKind::BadScript, text)
 }
 
-/// Reads match columns token by token.
+/// Parses match columns token by token.
 #[derive(Drop)]
 pub(crate) struct ColumnsReader {
     place: Place,
@@ -32,7 +34,7 @@ pub(crate) struct ColumnsReader {
 }
 
 impl Model for ColumnsReader {
-    ghost use Rattle.gr_script.specs.ColumnSteps.{State, state};
+    ghost use Rattle.gr_script.specs.Inside.ColumnSteps.{State, state};
 
     ghost Value = { State };
 
@@ -40,12 +42,12 @@ impl Model for ColumnsReader {
 }
 
 impl ColumnsReader {
-    ghost use Rattle.gr_script.specs.ColumnSteps.{columns_begin};
-    ghost use Rattle.gr_text.specs.Wrong.{most_levels};
+    ghost use Rattle.gr_script.specs.Inside.ColumnSteps.{columns_begin};
+    ghost use Rattle.gr_base.specs.declared.limits.TheConstants.{MOST_LEVELS};
 
     /// Nothing is read.
     fn new(alloc: Global) -> ColumnsReader
-        ensures { result ≡ columns_begin most_levels }
+        ensures { result ≡ columns_begin MOST_LEVELS }
     {
         ColumnsReader {
             place: Place::Path,
@@ -56,7 +58,7 @@ impl ColumnsReader {
 
 impl Reader for ColumnsReader {
     ghost use Rattle.gr_script.specs.Columns.{is_no_weight};
-    ghost use Rattle.gr_script.specs.ColumnSteps.{columns_end_of, columns_step_of};
+    ghost use Rattle.gr_script.specs.Inside.ColumnSteps.{columns_end_of, columns_step_of};
 
     type Token = Token;
 
@@ -98,7 +100,8 @@ fn is_no_weight(token: &Token) -> bool
     ensures { result ≡ is_no_weight token.now }
 {
     match token {
-        Token::Digits(Some(value)) => !(1 <= *value && *value <= 1000),
+        Token::Digits(Some(value)) => !(LEAST_WEIGHT as u64 <= *value
+            && *value <= MOST_WEIGHT as u64),
         Token::Digits(None) => true,
         _ => false,
     }

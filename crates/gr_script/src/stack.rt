@@ -2,31 +2,34 @@
 ghost use Rattle.std.specs.Prelude.{◌≡◌, ◌+◌, ◌<◌, ◌≤◌, ◌⊎◌, suc, [], ◌∷◌, reverse, MatchOption, IfNone, IfSome, OnOk, OnErr, Err};
 ghost use Rattle.std.specs.Option.{option_copied};
 ghost use Rattle.std.specs.List.{sum_by};
-ghost use Rattle.gr_script.specs.Machine.{TopIs, IsCall, IsNumberRow, IsRow, argued, combined, hold, level, linked, on_top, released, top, top_hold};
+ghost use Rattle.gr_base.specs.declared.limits.TheConstants.{MOST_LEVELS as most_levels};
+ghost use Rattle.gr_script.specs.Precedence.{rank};
+ghost use Rattle.gr_script.specs.Inside.Machine.{TopIs, IsCall, IsCalculation, IsChain, argued, combined, hold, level, linked, on_top, released, top, top_hold};
 
 use crate::frame::Frame;
-use gr_base::NoMemory;
-use gr_expr::{Arith, Ast, Join};
+use crate::precedence::Precedence;
+use gr_ast::{Arith, Ast, Join};
+use gr_base::{MOST_LEVELS, NoMemory};
 use gr_text::Stop;
 use std::alloc::Global;
 
-/// The begun parts of a script. At most 64 levels are open.
+/// The begun parts of a script. At most `MOST_LEVELS` levels are open.
 #[derive(Drop)]
 pub(crate) struct Stack {
     pub(crate) frames: Vec<Frame>,
     pub(crate) left: u64,
-    ghost counted: { left + sum_by level frames.items ≡ 64 },
+    ghost counted: { left + sum_by level frames.items ≡ most_levels },
 }
 
 impl Stack {
     /// No part is begun.
     pub(crate) fn new(alloc: Global) -> Stack
         ensures frames { result.frames.items ≡ [] }
-        ensures left { result.left ≡ 64 }
+        ensures left { result.left ≡ most_levels }
     {
         Stack {
             frames: Vec::new(alloc),
-            left: 64,
+            left: MOST_LEVELS,
         }
     }
 
@@ -66,13 +69,13 @@ impl Stack {
     }
 
     /// The last begun part, taken off if it binds more tightly than this.
-    pub(crate) fn pop_over(&mut self, pulled: u64) -> Option<Frame>
-        ensures kept { IfNone result ((self.new.frames.items ≡ self.old.frames.items) × (self.new.left ≡ self.old.left) × (top_hold (reverse self.old.frames.items) ≤ pulled)) }
+    pub(crate) fn pop_over(&mut self, pulled: Precedence) -> Option<Frame>
+        ensures kept { IfNone result ((self.new.frames.items ≡ self.old.frames.items) × (self.new.left ≡ self.old.left) × (top_hold (reverse self.old.frames.items) ≤ rank pulled)) }
         ensures frames { IfSome result (λ frame. reverse self.old.frames.items ≡ frame ∷ reverse self.new.frames.items) }
         ensures left { IfSome result (λ frame. self.new.left ≡ released frame self.old.left) }
-        ensures tighter { IfSome result (λ frame. pulled < hold frame) }
+        ensures tighter { IfSome result (λ frame. rank pulled < hold frame) }
     {
-        if self.top_hold() > pulled {
+        if self.top_hold().is_tighter(pulled) {
             self.pop()
         } else {
             None
@@ -80,12 +83,12 @@ impl Stack {
     }
 
     /// How tightly the last begun part binds.
-    fn top_hold(&self) -> u64
-        ensures { result ≡ top_hold (reverse self.now.frames.items) }
+    fn top_hold(&self) -> Precedence
+        ensures { rank result ≡ top_hold (reverse self.now.frames.items) }
     {
         match self.last() {
             Some(frame) => frame.hold(),
-            None => 0,
+            None => Precedence::Bracket,
         }
     }
 
@@ -96,9 +99,9 @@ impl Stack {
         self.frames.as_slice().last()
     }
 
-    /// One more condition of the row that was begun last, with the sign behind it.
+    /// One more condition of the chain that was begun last, with the sign behind it.
     pub(crate) fn link(&mut self, join: Join, tree: Ast) -> Result<(), NoMemory>
-        requires { TopIs IsRow (reverse self.old.frames.items) }
+        requires { TopIs IsChain (reverse self.old.frames.items) }
         ensures frames { OnOk result (reverse self.new.frames.items ≡ on_top (linked join tree) (reverse self.old.frames.items)) }
         ensures left { self.new.left ≡ self.old.left }
     {
@@ -108,9 +111,9 @@ impl Stack {
         }
     }
 
-    /// One more number of the row that was begun last, with the sign behind it.
+    /// One more number of the calculation that was begun last, with the sign behind it.
     pub(crate) fn combine(&mut self, arith: Arith, tree: Ast) -> Result<(), NoMemory>
-        requires { TopIs IsNumberRow (reverse self.old.frames.items) }
+        requires { TopIs IsCalculation (reverse self.old.frames.items) }
         ensures frames { OnOk result (reverse self.new.frames.items ≡ on_top (combined arith tree) (reverse self.old.frames.items)) }
         ensures left { self.new.left ≡ self.old.left }
     {

@@ -1,8 +1,8 @@
 // Scripts and match columns, by hand.
 use super::*;
-use gr_base::{Cmp, NoMemory};
-use gr_expr::{Arith, Ast, Combined, Join, Joined, Seek};
-use gr_text::TextFault;
+use gr_ast::{Arith, Ast, Combined, Join, Joined, Seek};
+use gr_base::{Cmp, Failure, NoMemory};
+use gr_text::{TextFault, TextRefusal};
 use std::alloc::Global;
 use std::fmt::Write;
 use std::test::Fail;
@@ -50,7 +50,7 @@ const OPERATORS: [Case; 34] = [
     Case("-!a", "-@0 !@1 a@2"),
 ];
 
-const ROWS: [Case; 14] = [
+const CHAINS: [Case; 14] = [
     Case("a || b || c", "[||||]@0 a@0 b@5 c@10"),
     Case("a && b &! c && d", "[&&&!&&]@0 a@0 b@5 c@10 d@15"),
     Case("a - b - c", "[--]@0 a@0 b@4 c@8"),
@@ -137,11 +137,11 @@ fn answer(alloc: Global, text: &str) -> Result<String, NoMemory> {
 fn fault_text(alloc: Global, fault: TextFault) -> Result<String, NoMemory> {
     let mut text = String::new(alloc);
     match fault {
-        TextFault::Refused { kind, at } => {
+        Failure::Refused(TextRefusal { kind, at }) => {
             let name = kind.name();
             write!(text, "{name} {at}")?;
         }
-        TextFault::NoMemory => text.push_str("no memory")?,
+        Failure::NoMemory => text.push_str("no memory")?,
     }
     Ok(text)
 }
@@ -318,8 +318,8 @@ fn each_operator_binds_as_the_grammar_has_it(rt: HostRuntime) -> Result<(), Fail
 }
 
 #[test]
-fn a_row_joins_from_left_to_right(rt: HostRuntime) -> Result<(), Fail> {
-    for case in &ROWS {
+fn a_chain_joins_from_left_to_right(rt: HostRuntime) -> Result<(), Fail> {
+    for case in &CHAINS {
         assert_eq!(rt; answer(rt.alloc(), case.0)?.as_str(), case.1, "{}", case.0);
     }
     Ok(())
@@ -473,5 +473,59 @@ fn match_columns_have_weights_from_1_to_1000(rt: HostRuntime) -> Result<(), Fail
             case.0
         );
     }
+    Ok(())
+}
+
+fn push_times(text: &mut String, part: &str, count: usize) -> Result<(), NoMemory> {
+    for _ in 0..count {
+        text.push_str(part)?;
+    }
+    Ok(())
+}
+
+/// More than 100 KB: a long string and a long path, a call of 5,001 arguments, a sum of 5,001 numbers, and then 3,000 brackets with a sign in each.
+fn long_script(alloc: Global) -> Result<String, NoMemory> {
+    let mut text = String::new(alloc);
+    text.push_str("\"")?;
+    push_times(&mut text, "x", 20_000)?;
+    text.push_str("\" == ")?;
+    push_times(&mut text, "y", 20_000)?;
+    text.push_str(" && in_values(n")?;
+    push_times(&mut text, ",1", 5_000)?;
+    text.push_str(") && 1 < 2")?;
+    push_times(&mut text, " + 3", 5_000)?;
+    push_times(&mut text, " && (a || !b)", 3_000)?;
+    Ok(text)
+}
+
+/// How many conditions a script has behind its first one.
+fn further_conditions(alloc: Global, text: &str) -> usize {
+    match parse(alloc, text) {
+        Ok(Ast::Chain { rest, .. }) => rest.len(),
+        _ => 0,
+    }
+}
+
+#[test]
+fn a_script_of_100_kb_has_its_tree(rt: HostRuntime) -> Result<(), Fail> {
+    let text = long_script(rt.alloc())?;
+    assert_eq!(rt; further_conditions(rt.alloc(), text.as_str()), 3_002);
+    Ok(())
+}
+
+/// How many match columns a text has.
+fn column_count(alloc: Global, text: &str) -> usize {
+    match parse_columns(alloc, text) {
+        Ok(columns) => columns.as_slice().len(),
+        Err(_) => 0,
+    }
+}
+
+#[test]
+fn columns_of_100_kb_are_all_there(rt: HostRuntime) -> Result<(), Fail> {
+    let mut text = String::new(rt.alloc());
+    push_times(&mut text, "x", 20_000)?;
+    push_times(&mut text, "||a*3", 16_000)?;
+    assert_eq!(rt; column_count(rt.alloc(), text.as_str()), 16_001);
     Ok(())
 }

@@ -66,7 +66,7 @@ fn digits_at(bytes: &[u8]) -> MaybeToken
     if begins_name(bytes.split_at(len).1) {
         return None;
     }
-    Some((Token::Digits(number_from(bytes)), len))
+    Some((Token::Digits(number_from(bytes, len)), len))
 }
 
 /// Whether a letter or `_` stands first.

@@ -1,40 +1,17 @@
 // The trees that the grammar makes of its parts.
 ghost use Rattle.std.specs.Prelude.{◌≡◌, ◌++◌, ◌∷◌, [], OnOk};
-ghost use Rattle.gr_expr.specs.declared.ast.Ast.TheVariants as ast;
-ghost use Rattle.gr_script.specs.Machine.{closed};
-ghost use Rattle.gr_script.specs.Trees.{place_of, link, term, tested, signed, called};
+ghost use Rattle.gr_ast.specs.declared.ast.Ast.TheVariants as ast;
+ghost use Rattle.gr_script.specs.Inside.Machine.{closed};
+ghost use Rattle.gr_ast.specs.Trees.{place_of, link, term};
+ghost use Rattle.gr_script.specs.Trees.{tested, signed, called};
 
 use crate::frame::Frame;
 use crate::grammar::{Call, Sign};
+use gr_ast::{Arith, Ast, Combined, FieldOp, Join, Joined};
 use gr_base::NoMemory;
-use gr_expr::{Arith, Ast, Combined, FieldOp, Join, Joined};
 use sqlite_items::{Boxed, Items};
 use std::alloc::Global;
 use std::mem::replace;
-
-/// The place of a tree's first token, grouping brackets left aside.
-#[tactic(auto, unfolding(crate::specs::Trees::place_of))]
-pub(crate) fn place_of(tree: &Ast) -> u64
-    ensures { result ≡ place_of tree.now }
-{
-    match tree {
-        Ast::Chain { at, .. } => *at,
-        Ast::Not { at, .. } => *at,
-        Ast::Minus { at, .. } => *at,
-        Ast::Compare { at, .. } => *at,
-        Ast::Find { at, .. } => *at,
-        Ast::Calc { at, .. } => *at,
-        Ast::Between { at, .. } => *at,
-        Ast::InValues { at, .. } => *at,
-        Ast::Path { at, .. } => *at,
-        Ast::Number { at, .. } => *at,
-        Ast::Text { at, .. } => *at,
-        Ast::Truth { at, .. } => *at,
-        Ast::All { at } => *at,
-        Ast::Word { at, .. } => *at,
-        Ast::FieldTest { at, .. } => *at,
-    }
-}
 
 /// The tree, with another left in its place.
 pub(crate) fn take_tree(tree: &mut Ast) -> Ast
@@ -79,7 +56,7 @@ fn chain(
     let of = take_tree(tree);
     let mut rest = links;
     rest.push(Joined { join, of })?;
-    let at = place_of(first.get());
+    let at = first.get().at();
     *tree = Ast::Chain { at, first, rest };
     Ok(())
 }
@@ -96,7 +73,7 @@ fn calculate(
     let of = take_tree(tree);
     let mut rest = terms;
     rest.push(Combined { arith, of })?;
-    let at = place_of(first.get());
+    let at = first.get().at();
     *tree = Ast::Calc { at, first, rest };
     Ok(())
 }
@@ -105,7 +82,7 @@ fn calculate(
 fn make_test(alloc: Global, test: FieldOp, left: Boxed<Ast>, tree: &mut Ast) -> Result<(), NoMemory>
     ensures { OnOk result (tree.new ≡ tested test left tree.old) }
 {
-    let at = place_of(left.get());
+    let at = left.get().at();
     let right = Boxed::new(alloc, take_tree(tree))?;
     *tree = match test {
         FieldOp::Compare(cmp) => Ast::Compare {

@@ -5,8 +5,8 @@ ghost use Rattle.gr_script.specs.Words.{after_by, after_mark, is_large, opens, r
 
 use crate::grammar::{After, Call, ConditionLine, NumberLine, Reserved, Sign, Start};
 use crate::token::{Symbol, Token};
+use gr_ast::{Arith, Ast, FieldOp, Join, Seek};
 use gr_base::{Bytes, Cmp};
-use gr_expr::{Arith, Ast, FieldOp, Join, Seek};
 use gr_text::Lexeme;
 
 /// What an operand that begins with this token is.

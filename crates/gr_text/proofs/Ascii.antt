@@ -5,7 +5,7 @@ use Rattle.std.proofs.lemmas.Str.{IsUtf8-drop, IsUtf8-from_ascii, IsCharBoundary
 use Rattle.std.specs.Char.{is_ascii_digit}
 use Rattle.std.specs.List.{prefix_len}
 use Rattle.std.specs.Str.{IsAscii, IsCharBoundary}
-use Rattle.gr_text.specs.Characters.{blanks_len, is_blank, is_name_rest, is_name_start}
+use Rattle.gr_text.specs.Characters.{white_space_len, is_white_space, is_name_rest, is_name_start}
 use Rattle.gr_text.specs.Digits.{digits_len}
 use Rattle.gr_text.specs.Paths.{name_len, names_len, path_len}
 
@@ -55,8 +55,8 @@ IsAsciiFront-prefix p ascii (c ∷ cs) = by (p c) (ascii c) (IsAsciiFront-prefix
     by false ascii others = tt
     by true ascii others = rw one-add (let front : IsAsciiFront (suc (prefix_len p cs)) (c ∷ cs) = (ascii refl, others) in front)
 
-pub IsAsciiFront-blanks : (bytes : List ℕ) → IsAsciiFront (blanks_len bytes) bytes
-IsAsciiFront-blanks bytes = IsAsciiFront-prefix is_blank (λ c blank. grind (arith, nat_tests)) bytes
+pub IsAsciiFront-blanks : (bytes : List ℕ) → IsAsciiFront (white_space_len bytes) bytes
+IsAsciiFront-blanks bytes = IsAsciiFront-prefix is_white_space (λ c blank. grind (arith, nat_tests)) bytes
 
 pub IsAsciiFront-digits : (bytes : List ℕ) → IsAsciiFront (digits_len bytes) bytes
 IsAsciiFront-digits bytes = IsAsciiFront-prefix is_ascii_digit (λ c digit. grind (arith, nat_tests)) bytes

@@ -1,6 +1,6 @@
 -- How a text is cut token by token.
 use Rattle.std.proofs.Common.{◌≡◌, ℕ, zero, suc, ◌+◌, ◌-◌, ◌≤◌, ◌<◌, Bool, true, false, cond, Option, Some, None, List, [], ◌∷◌, length, drop, refl, sym, ap, ◌∙◌, arith, one-add, add-zero}
-use Rattle.gr_text.specs.Characters.{blanks_len, is_blank}
+use Rattle.gr_text.specs.Characters.{white_space_len, is_white_space}
 use Rattle.gr_text.specs.Cut.{cut_at, cut_from, with_token}
 
 module _ {T : Type 0} (token_at : List ℕ → Option (T × ℕ)) where
@@ -12,28 +12,28 @@ module _ {T : Type 0} (token_at : List ℕ → Option (T × ℕ)) where
       let place : at + 1 + pass ≡ at + suc pass = omega arith in
       cut_from-pass (at + 1) pass cs (omega arith) ∙ ap (λ n. cut_from token_at n 0 (drop pass cs)) place
 
-  -- and so may blanks
-  pub cut_from-blanks : (at : ℕ) (bytes : List ℕ) → cut_from token_at at 0 bytes ≡ cut_from token_at (at + blanks_len bytes) 0 (drop (blanks_len bytes) bytes)
+  -- and so may white space
+  pub cut_from-blanks : (at : ℕ) (bytes : List ℕ) → cut_from token_at at 0 bytes ≡ cut_from token_at (at + white_space_len bytes) 0 (drop (white_space_len bytes) bytes)
   cut_from-blanks at [] = rw add-zero refl
-  cut_from-blanks at (c ∷ cs) = by (is_blank c) refl (cut_from-blanks (at + 1) cs)
+  cut_from-blanks at (c ∷ cs) = by (is_white_space c) refl (cut_from-blanks (at + 1) cs)
     where
-      by : (b : Bool) → is_blank c ≡ b → cut_from token_at (at + 1) 0 cs ≡ cut_from token_at (at + 1 + blanks_len cs) 0 (drop (blanks_len cs) cs)
-          → cut_from token_at at 0 (c ∷ cs) ≡ cut_from token_at (at + cond b (1 + blanks_len cs) 0) 0 (drop (cond b (1 + blanks_len cs) 0) (c ∷ cs))
+      by : (b : Bool) → is_white_space c ≡ b → cut_from token_at (at + 1) 0 cs ≡ cut_from token_at (at + 1 + white_space_len cs) 0 (drop (white_space_len cs) cs)
+          → cut_from token_at at 0 (c ∷ cs) ≡ cut_from token_at (at + cond b (1 + white_space_len cs) 0) 0 (drop (cond b (1 + white_space_len cs) 0) (c ∷ cs))
       by true blank later =
-          let place : at + 1 + blanks_len cs ≡ at + suc (blanks_len cs) = omega arith in
-          rw (blank, one-add) (later ∙ ap (λ n. cut_from token_at n 0 (drop (blanks_len cs) cs)) place)
+          let place : at + 1 + white_space_len cs ≡ at + suc (white_space_len cs) = omega arith in
+          rw (blank, one-add) (later ∙ ap (λ n. cut_from token_at n 0 (drop (white_space_len cs) cs)) place)
       by false blank later = rw add-zero refl
 
--- nothing, or a byte that is no blank first
+-- nothing, or a byte that is no white space first
 abbrev pub IsUnblanked : List ℕ → Type 0
 IsUnblanked [] = Unit {0}
-IsUnblanked (c ∷ cs) = is_blank c ≡ false
+IsUnblanked (c ∷ cs) = is_white_space c ≡ false
 
-pub IsUnblanked-behind : (bytes : List ℕ) → IsUnblanked (drop (blanks_len bytes) bytes)
+pub IsUnblanked-behind : (bytes : List ℕ) → IsUnblanked (drop (white_space_len bytes) bytes)
 IsUnblanked-behind [] = tt
-IsUnblanked-behind (c ∷ cs) = by (is_blank c) refl (IsUnblanked-behind cs)
+IsUnblanked-behind (c ∷ cs) = by (is_white_space c) refl (IsUnblanked-behind cs)
   where
-    by : (b : Bool) → is_blank c ≡ b → IsUnblanked (drop (blanks_len cs) cs) → IsUnblanked (drop (cond b (1 + blanks_len cs) 0) (c ∷ cs))
+    by : (b : Bool) → is_white_space c ≡ b → IsUnblanked (drop (white_space_len cs) cs) → IsUnblanked (drop (cond b (1 + white_space_len cs) 0) (c ∷ cs))
     by true blank later = rw one-add later
     by false blank later = blank
 
@@ -60,7 +60,7 @@ module _ {T : Type 0} (token_at : List ℕ → Option (T × ℕ)) where
   -- a text is cut whole
   pub length-cut_from : (at pass : ℕ) (bytes : List ℕ) → (cut_from token_at at pass bytes).length ≡ at + length bytes
   length-cut_from at pass [] = sym (add-zero at)
-  length-cut_from at zero (c ∷ cs) = blank (is_blank c) (λ pass. length-cut_from (at + 1) pass cs)
+  length-cut_from at zero (c ∷ cs) = blank (is_white_space c) (λ pass. length-cut_from (at + 1) pass cs)
     where
       token : (found : Option (T × ℕ)) → ((pass : ℕ) → (cut_from token_at (at + 1) pass cs).length ≡ at + 1 + length cs) → (cut_at at (length (c ∷ cs)) (λ pass. cut_from token_at (at + 1) pass cs) found).length ≡ at + length (c ∷ cs)
       token None later = refl

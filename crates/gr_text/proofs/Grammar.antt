@@ -2,11 +2,12 @@
 use Rattle.std.proofs.Common.{◌≡◌, ℕ, zero, suc, ◌+◌, Bool, true, false, Option, Some, None, Err, List, [], ◌∷◌, ◌++◌, append_assoc, append-nil, add_comm, zero-add, suc-add, refl, sym, ◌∙◌, ap, subst}
 use Rattle.gr_base.specs.declared.fault.FaultKind.{FaultKind}
 use Rattle.gr_text.specs.Cut.{Cut, Placed}
-use Rattle.gr_text.specs.Reading.{Outcome, goes, deep, wrong, run, Rules, rules_by, Gives, Halts, at_token, at_stranger, at_end, at_number, Tells}
+use Rattle.gr_text.specs.Inside.Reading.{Outcome, goes, deep, wrong, run, Rules, rules_by, Gives, Halts, at_token, at_stranger, at_end, at_number, Tells}
 use Rattle.gr_text.specs.Sentences.{IsSentence, Begins, IsRead, IsRefused, no_sentence, no_value, IsRefusal}
-use Rattle.gr_text.specs.Wrong.{unexpected, deep as too_deep, strange, unfinished, most_levels, wrong_kind}
-use Rattle.gr_text.specs.declared.fault.TextFault.{TextFault}
-use Rattle.gr_text.specs.declared.fault.TextFault.TheVariants.{Refused, NoMemory}
+use Rattle.gr_base.specs.declared.limits.TheConstants.{MOST_LEVELS}
+use Rattle.gr_text.specs.Wrong.{unexpected, deep as too_deep, strange, unfinished, wrong_kind}
+use Rattle.gr_text.specs.Fault.{TextFault}
+use Rattle.gr_base.specs.declared.failure.Failure.TheVariants.{Refused, NoMemory}
 use Rattle.gr_text.proofs.Cases.{some_is, none_is}
 use Rattle.gr_text.proofs.OneFault.{one_place, no_fault}
 use Rattle.gr_text.proofs.Turning.{run-append}
@@ -104,28 +105,28 @@ module _ {T S X : Type 0} {step : S → Placed T → Outcome S} {end : S → Opt
 
   module _ (lacks_value : T → Bool) (IsText : T → Type 0) (otherwise : FaultKind) where
     abbrev rules_of : Rules T S X
-    rules_of = rules_by step end lacks_value IsText otherwise (begin most_levels)
+    rules_of = rules_by step end lacks_value IsText otherwise (begin MOST_LEVELS)
 
     -- what it makes of a text is the text's tree
     pub gives_read : {cut : Cut T} {tree : X} → Gives rules_of cut tree → IsRead Sentence lacks_value cut tree
-    gives_read {cut} {tree} g = record { clean = g.clean; sentence = fits.sentence_from most_levels cut.tokens tree (ap (end_of end) (g.is_at).is ∙ g.made); fits = g.fits }
+    gives_read {cut} {tree} g = record { clean = g.clean; sentence = fits.sentence_from MOST_LEVELS cut.tokens tree (ap (end_of end) (g.is_at).is ∙ g.made); fits = g.fits }
 
     halts_refused : {cut : Cut T} {kind : FaultKind} {at : ℕ} → Halts rules_of cut kind at → IsRefused Sentence lacks_value otherwise cut kind at
     halts_refused (at_token before others t state true parts is_at stops place told) =
-        no_sentence true (too_deep before t others (record { parts = parts; place = place; begun = begun most_levels before state is_at.is }) (λ b. subst IsGoing (on_token most_levels before state is_at.is t ∙ stops) (fits.begins_to most_levels (before ++ (t ∷ [])) b)) (suc most_levels) (deep_begins most_levels before state is_at.is t stops) refl) told
+        no_sentence true (too_deep before t others (record { parts = parts; place = place; begun = begun MOST_LEVELS before state is_at.is }) (λ b. subst IsGoing (on_token MOST_LEVELS before state is_at.is t ∙ stops) (fits.begins_to MOST_LEVELS (before ++ (t ∷ [])) b)) (suc MOST_LEVELS) (deep_begins MOST_LEVELS before state is_at.is t stops) refl) told
     halts_refused (at_token before others t state false parts is_at stops place told) =
-        no_sentence false (unexpected before t others (record { parts = parts; place = place; begun = begun most_levels before state is_at.is }) (wrong_never most_levels (before ++ (t ∷ [])) (on_token most_levels before state is_at.is t ∙ stops)) refl) told
-    halts_refused {cut} (at_stranger state is_at e told) = no_sentence false (strange (begun most_levels cut.tokens state is_at.is) e refl) told
-    halts_refused {cut} (at_end state is_at clean e place told) = no_sentence false (unfinished (begun most_levels cut.tokens state is_at.is) clean none place refl) told
+        no_sentence false (unexpected before t others (record { parts = parts; place = place; begun = begun MOST_LEVELS before state is_at.is }) (wrong_never MOST_LEVELS (before ++ (t ∷ [])) (on_token MOST_LEVELS before state is_at.is t ∙ stops)) refl) told
+    halts_refused {cut} (at_stranger state is_at e told) = no_sentence false (strange (begun MOST_LEVELS cut.tokens state is_at.is) e refl) told
+    halts_refused {cut} (at_end state is_at clean e place told) = no_sentence false (unfinished (begun MOST_LEVELS cut.tokens state is_at.is) clean none place refl) told
       where
-        none : IsSentence Sentence most_levels cut.tokens → ⊥
-        none s = none_is (sym e ∙ sym (ap (end_of end) is_at.is) ∙ fits.sentence_to most_levels cut.tokens s.0 s.1)
+        none : IsSentence Sentence MOST_LEVELS cut.tokens → ⊥
+        none s = none_is (sym e ∙ sym (ap (end_of end) is_at.is) ∙ fits.sentence_to MOST_LEVELS cut.tokens s.0 s.1)
     halts_refused {cut} (at_number state tree is_at clean e first told) =
-        no_value tree clean (fits.sentence_from most_levels cut.tokens tree (ap (end_of end) is_at.is ∙ e)) first told
+        no_value tree clean (fits.sentence_from MOST_LEVELS cut.tokens tree (ap (end_of end) is_at.is ∙ e)) first told
 
     -- and it refuses a text for what is wrong with it, where it is wrong
     pub tells_refusal : (cut : Cut T) (fault : TextFault) → Tells rules_of cut (Err fault) → IsRefusal Sentence lacks_value otherwise cut fault
-    tells_refusal cut (Refused kind at) h = halts_refused h
+    tells_refusal cut (Refused refusal) h = halts_refused h
     tells_refusal cut NoMemory h = tt
 
   -- what begins a sentence is closed under prefixes
@@ -137,12 +138,12 @@ module _ {T S X : Type 0} {step : S → Placed T → Outcome S} {end : S → Opt
 
   -- a text has one tree at most
   pub tree_is : {lacks_value : T → Bool} {cut : Cut T} {x y : X} → IsRead Sentence lacks_value cut x → IsRead Sentence lacks_value cut y → x ≡ y
-  tree_is {cut = cut} {x = x} {y = y} a b = some_is (sym (fits.sentence_to most_levels cut.tokens x a.sentence) ∙ fits.sentence_to most_levels cut.tokens y b.sentence)
+  tree_is {cut = cut} {x = x} {y = y} a b = some_is (sym (fits.sentence_to MOST_LEVELS cut.tokens x a.sentence) ∙ fits.sentence_to MOST_LEVELS cut.tokens y b.sentence)
 
   module _ {lacks_value : T → Bool} {otherwise : FaultKind} {cut : Cut T} where
     -- what has a tree is not refused
     pub not_both : {x : X} {kind : FaultKind} {at : ℕ} → IsRead Sentence lacks_value cut x → IsRefused Sentence lacks_value otherwise cut kind at → ⊥
-    not_both {x} a (no_sentence is_deep w e) = no_fault (Begins Sentence) (IsSentence Sentence) shorter w a.clean (begins most_levels cut.tokens x a.sentence) (x, a.sentence)
+    not_both {x} a (no_sentence is_deep w e) = no_fault (Begins Sentence) (IsSentence Sentence) shorter w a.clean (begins MOST_LEVELS cut.tokens x a.sentence) (x, a.sentence)
     not_both a (no_value tree clean s first e) = none_is (sym a.fits ∙ first)
 
     -- what is refused is so for one thing at one place
@@ -150,6 +151,6 @@ module _ {T S X : Type 0} {step : S → Placed T → Outcome S} {end : S → Opt
     fault_is (no_sentence is_deep w e) (no_sentence is_deep' w' e') =
         let same = one_place (Begins Sentence) (IsSentence Sentence) shorter w w' in
         (e ∙ ap (wrong_kind otherwise) same.0 ∙ sym e', same.1)
-    fault_is (no_sentence is_deep w e) (no_value tree clean s first e') = absurd (no_fault (Begins Sentence) (IsSentence Sentence) shorter w clean (begins most_levels cut.tokens tree s) (tree, s))
-    fault_is (no_value tree clean s first e) (no_sentence is_deep w e') = absurd (no_fault (Begins Sentence) (IsSentence Sentence) shorter w clean (begins most_levels cut.tokens tree s) (tree, s))
+    fault_is (no_sentence is_deep w e) (no_value tree clean s first e') = absurd (no_fault (Begins Sentence) (IsSentence Sentence) shorter w clean (begins MOST_LEVELS cut.tokens tree s) (tree, s))
+    fault_is (no_value tree clean s first e) (no_sentence is_deep w e') = absurd (no_fault (Begins Sentence) (IsSentence Sentence) shorter w clean (begins MOST_LEVELS cut.tokens tree s) (tree, s))
     fault_is (no_value tree clean s first e) (no_value tree' clean' s' first' e') = (e ∙ sym e', some_is (sym first ∙ first'))

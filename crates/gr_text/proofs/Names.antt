@@ -14,7 +14,7 @@ pub path_len-first : (bytes : List ℕ) → 0 < name_len bytes → path_len byte
 path_len-first bytes some = rw (lt-ltb 0 (name_len bytes) some) (ap (λ n. name_len bytes + n) (names_len-pass (name_len bytes) bytes))
 
 -- a dot and a name take a path further
-names_len-name : (others : List ℕ) → 0 < name_len others → names_len 0 (46 ∷ others) ≡ 1 + name_len others + names_len 0 (drop (name_len others) others)
+pub names_len-name : (others : List ℕ) → 0 < name_len others → names_len 0 (46 ∷ others) ≡ 1 + name_len others + names_len 0 (drop (name_len others) others)
 names_len-name others some = rw (lt-ltb 0 (name_len others) some) (ap (λ n. 1 + name_len others + n) (names_len-pass (name_len others) others))
 
 -- a dot and a name of so many bytes stand at the front

@@ -1,24 +1,24 @@
--- What stands next in a text, behind its blanks.
+-- What stands next in a text, behind its white space.
 use Rattle.std.proofs.Common.{◌≡◌, ℕ, ◌+◌, ◌<◌, ◌≤◌, ◌≢◌, Option, Some, None, List, [], length, drop, sym, ap, ◌∙◌, arith}
 use Rattle.std.proofs.lemmas.List.{drop-drop}
-use Rattle.gr_text.specs.Characters.{blanks_len}
+use Rattle.gr_text.specs.Characters.{white_space_len}
 use Rattle.gr_text.specs.Cut.{cut_from, with_token}
 use Rattle.gr_text.specs.Lexing.{behind}
 use Rattle.gr_text.proofs.Cuts.{IsUnblanked, IsUnblanked-behind, cut_from-blanks, cut_from-end, cut_from-stranger, cut_from-token}
 
--- the bytes behind the blanks that stand first
-pub record IsBehindBlanks (bytes rest : List ℕ) (blanks : ℕ) : Type 0 where
-  pub counted : blanks ≡ blanks_len bytes
+-- the bytes behind the white space that stands first
+pub record IsBehindWhiteSpace (bytes rest : List ℕ) (blanks : ℕ) : Type 0 where
+  pub counted : blanks ≡ white_space_len bytes
   pub kept : rest ≡ drop blanks bytes
 
 pub above : (n : ℕ) → n ≢ 0 → 0 < n
 above n differs = omega (arith, differs)
 
-module _ {T : Type 0} (starts : List ℕ → Option (T × ℕ)) {bytes rest : List ℕ} {blanks : ℕ} (at : ℕ) (cut : IsBehindBlanks bytes rest blanks) where
+module _ {T : Type 0} (starts : List ℕ → Option (T × ℕ)) {bytes rest : List ℕ} {blanks : ℕ} (at : ℕ) (cut : IsBehindWhiteSpace bytes rest blanks) where
   unblanked : IsUnblanked rest
   unblanked = rw (cut.kept, cut.counted) (IsUnblanked-behind bytes)
 
-  -- blanks may be left out
+  -- white space may be left out
   left-blanks : cut_from starts at 0 bytes ≡ cut_from starts (at + blanks) 0 rest
   left-blanks = rw (cut.kept, cut.counted) (cut_from-blanks starts at bytes)
 
@@ -30,7 +30,7 @@ module _ {T : Type 0} (starts : List ℕ → Option (T × ℕ)) {bytes rest : Li
   pub strange : 0 < length rest → starts rest ≡ None → cut_from starts at 0 bytes ≡ record { tokens = []; stranger = Some (at + blanks); length = at + blanks + length rest }
   strange some none = left-blanks ∙ cut_from-stranger starts (at + blanks) rest unblanked some none
 
-  -- where no token stands there, the same is left behind the blanks
+  -- where no token stands there, the same is left behind the white space
   pub behind-none : {stranger : Option ℕ} {end : ℕ} → cut_from starts at 0 bytes ≡ record { tokens = []; stranger = stranger; length = end } → cut_from starts (at + blanks) 0 (drop blanks bytes) ≡ behind (cut_from starts at 0 bytes)
   behind-none none = ap (cut_from starts (at + blanks) 0) (sym cut.kept) ∙ sym left-blanks ∙ none ∙ sym (ap behind none)
 

@@ -3,7 +3,8 @@ use Rattle.std.proofs.Common.{◌≡◌, ℕ, Bool, List, [], ◌∷◌, ◌++�
 use mathlib.Core.Path.{ap₂}
 use Rattle.gr_text.proofs.Cases.{some_is, none_is, head_is, tail_is}
 use Rattle.gr_text.specs.Cut.{Placed, Cut}
-use Rattle.gr_text.specs.Wrong.{Follows, IsWrong, unexpected, deep, strange, unfinished, most_levels}
+use Rattle.gr_base.specs.declared.limits.TheConstants.{MOST_LEVELS}
+use Rattle.gr_text.specs.Wrong.{Follows, IsWrong, unexpected, deep, strange, unfinished}
 
 -- how two ways to part one list at an element stand to each other
 data Parted {X : Type 0} (before : List X) (t : X) (other : List X) (u : X) : Type 0 where
@@ -29,12 +30,12 @@ module _ {T : Type 0} (Begins IsSentence : ℕ → List (Placed T) → Type 0) (
     token : Placed T
     others : List (Placed T)
     follows : Follows Begins IsSentence cut at before token others
-    stopped : Begins most_levels (before ++ (token ∷ [])) → ⊥
+    stopped : Begins MOST_LEVELS (before ++ (token ∷ [])) → ⊥
 
-  not_all : {cut : Cut T} {at : ℕ} → Stops cut at → Begins most_levels cut.tokens → ⊥
+  not_all : {cut : Cut T} {at : ℕ} → Stops cut at → Begins MOST_LEVELS cut.tokens → ⊥
   not_all s b =
       let parts = (s.follows).parts ∙ sym (append_assoc s.before (s.token ∷ []) s.others) in
-      s.stopped (shorter most_levels (s.before ++ (s.token ∷ [])) s.others (subst (Begins most_levels) parts b))
+      s.stopped (shorter MOST_LEVELS (s.before ++ (s.token ∷ [])) s.others (subst (Begins MOST_LEVELS) parts b))
 
   -- two places where the tokens stop are one, with one token
   stops_once : {cut : Cut T} {at place : ℕ} (s : Stops cut at) (r : Stops cut place) → (s.before ++ (s.token ∷ []) ≡ r.before ++ (r.token ∷ [])) × (at ≡ place)
@@ -42,13 +43,13 @@ module _ {T : Type 0} (Begins IsSentence : ℕ → List (Placed T) → Type 0) (
     where
       go : Parted s.before s.token r.before r.token → (s.before ++ (s.token ∷ []) ≡ r.before ++ (r.token ∷ [])) × (at ≡ place)
       go (same p q) = (ap₂ (λ xs x. xs ++ (x ∷ [])) p q, (s.follows).place ∙ ap (λ t. t.at) q ∙ sym (r.follows).place)
-      go (first ys p) = absurd (s.stopped (shorter most_levels (s.before ++ (s.token ∷ [])) ys (subst (Begins most_levels) p (r.follows).begun)))
-      go (second ys p) = absurd (r.stopped (shorter most_levels (r.before ++ (r.token ∷ [])) ys (subst (Begins most_levels) p (s.follows).begun)))
+      go (first ys p) = absurd (s.stopped (shorter MOST_LEVELS (s.before ++ (s.token ∷ [])) ys (subst (Begins MOST_LEVELS) p (r.follows).begun)))
+      go (second ys p) = absurd (r.stopped (shorter MOST_LEVELS (r.before ++ (r.token ∷ [])) ys (subst (Begins MOST_LEVELS) p (s.follows).begun)))
 
   abbrev at_unexpected : {cut : Cut T} {at : ℕ} {before : List (Placed T)} {token : Placed T} {others : List (Placed T)} → Follows Begins IsSentence cut at before token others → ((levels : ℕ) → Begins levels (before ++ (token ∷ [])) → ⊥) → Stops cut at
-  at_unexpected {before = before} {token = token} {others = others} f never = record { before = before; token = token; others = others; follows = f; stopped = never most_levels }
+  at_unexpected {before = before} {token = token} {others = others} f never = record { before = before; token = token; others = others; follows = f; stopped = never MOST_LEVELS }
 
-  abbrev at_deep : {cut : Cut T} {at : ℕ} {before : List (Placed T)} {token : Placed T} {others : List (Placed T)} → Follows Begins IsSentence cut at before token others → (Begins most_levels (before ++ (token ∷ [])) → ⊥) → Stops cut at
+  abbrev at_deep : {cut : Cut T} {at : ℕ} {before : List (Placed T)} {token : Placed T} {others : List (Placed T)} → Follows Begins IsSentence cut at before token others → (Begins MOST_LEVELS (before ++ (token ∷ [])) → ⊥) → Stops cut at
   at_deep {before = before} {token = token} {others = others} f not = record { before = before; token = token; others = others; follows = f; stopped = not }
 
   -- a text is wrong first at one place, for its depth or otherwise
@@ -73,7 +74,7 @@ module _ {T : Type 0} (Begins IsSentence : ℕ → List (Placed T) → Type 0) (
   one_place (unfinished k s n p e) (unfinished k' s' n' p' e') = (e ∙ sym e', p ∙ sym p')
 
   -- what is a sentence is wrong nowhere
-  pub no_fault : {cut : Cut T} {is_deep : Bool} {at : ℕ} → IsWrong Begins IsSentence cut is_deep at → cut.stranger ≡ None → Begins most_levels cut.tokens → IsSentence most_levels cut.tokens → ⊥
+  pub no_fault : {cut : Cut T} {is_deep : Bool} {at : ℕ} → IsWrong Begins IsSentence cut is_deep at → cut.stranger ≡ None → Begins MOST_LEVELS cut.tokens → IsSentence MOST_LEVELS cut.tokens → ⊥
   no_fault (unexpected b t o f never e) clean k s = not_all (at_unexpected f never) k
   no_fault (deep b t o f not levels k' e) clean k s = not_all (at_deep f not) k
   no_fault (strange k' at e) clean k s = none_is (sym clean ∙ at)

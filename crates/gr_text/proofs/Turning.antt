@@ -3,8 +3,9 @@ use Rattle.std.proofs.Common.{◌≡◌, ℕ, Bool, true, false, cond, Option, S
 use Rattle.gr_base.specs.declared.fault.FaultKind.TheVariants.{BadNumber}
 use Rattle.gr_text.specs.Cut.{Cut, Placed}
 use Rattle.gr_text.specs.Lexing.{placed, next_of, found_in, others, behind}
-use Rattle.gr_text.specs.Reading.{Outcome, goes, deep, wrong, Answers, Finishes, fault_of, first_where, first_with, AreText, run, halted, Rules, IsAt, Stands, Gives, Halts, at_token, at_stranger, at_end, at_number, Tells}
-use Rattle.gr_text.specs.declared.fault.TextFault.{TextFault}
+use Rattle.gr_text.specs.Inside.Reading.{Outcome, goes, deep, wrong, Answers, Finishes, fault_of, first_with, AreText, run, halted, Rules, IsAt, HasRead, Gives, Halts, at_token, at_stranger, at_end, at_number, Tells}
+use Rattle.gr_text.specs.Sentences.{first_where}
+use Rattle.gr_text.specs.Fault.{TextFault}
 use Rattle.gr_text.specs.declared.lexer.Found.{Found}
 use Rattle.gr_text.specs.declared.lexer.Found.TheVariants as found
 use Rattle.gr_text.specs.declared.lexer.Lexeme.{Lexeme}
@@ -85,7 +86,7 @@ module _ {T S : Type 0} (step : S → Placed T → Outcome S) where
   run-append (x ∷ xs) [] wrong = refl
   run-append (x ∷ xs) (y ∷ ys) wrong = refl
 
-module _ {T S X : Type 0} {rules : Rules T S X} {whole now : Cut T} {state : S} {valueless : Option ℕ} (s : Stands rules whole now state valueless) where
+module _ {T S X : Type 0} {rules : Rules T S X} {whole now : Cut T} {state : S} {valueless : Option ℕ} (s : HasRead rules whole now state valueless) where
   module _ {lexeme : Lexeme T} (e : found.Lexeme lexeme ≡ found_in now) where
     next : NextToken now.tokens lexeme
     next = next_token now.tokens now.stranger lexeme e
@@ -94,10 +95,10 @@ module _ {T S X : Type 0} {rules : Rules T S X} {whole now : Cut T} {state : S} 
     parts_on = s.parts ∙ ap (λ ts. s.read ++ ts) next.parts
 
     -- the text may go on
-    pub turn_goes : {after : Cut T} {state' : S} {valueless' : Option ℕ} → after ≡ behind now → rules.IsText lexeme.token → rules.step state (placed lexeme) ≡ goes state' → valueless' ≡ first_with valueless rules.lacks_value (placed lexeme) → Stands rules whole after state' valueless'
+    pub turn_goes : {after : Cut T} {state' : S} {valueless' : Option ℕ} → after ≡ behind now → rules.IsText lexeme.token → rules.step state (placed lexeme) ≡ goes state' → valueless' ≡ first_with valueless rules.lacks_value (placed lexeme) → HasRead rules whole after state' valueless'
     turn_goes {after} {state'} {valueless'} behind_is text went found_valueless =
         let t = next.token in
-        subst (λ a. Stands rules whole a state' valueless') (sym behind_is) (record {
+        subst (λ a. HasRead rules whole a state' valueless') (sym behind_is) (record {
           read = s.read ++ (t ∷ []);
           parts = parts_on ∙ sym (append_assoc s.read (t ∷ []) next.later) ∙ ap (λ ts. (s.read ++ (t ∷ [])) ++ ts) (ap others (sym next.parts));
           stranger = s.stranger;
@@ -130,11 +131,11 @@ module _ {T S X : Type 0} {rules : Rules T S X} {whole now : Cut T} {state : S} 
       subst (λ f. Tells rules whole (Err f)) (sym is) (at_stranger state (at_last n.0) (sym s.stranger ∙ n.1) refl)
 
   -- the text has no more tokens
-  pub turn_ends : {after : Cut T} → found.End ≡ found_in now → after ≡ behind now → Stands rules whole after state valueless × (after.tokens ≡ []) × (after.stranger ≡ None)
+  pub turn_ends : {after : Cut T} → found.End ≡ found_in now → after ≡ behind now → HasRead rules whole after state valueless × (after.tokens ≡ []) × (after.stranger ≡ None)
   turn_ends {after} e behind_is =
       let n = next_end now.tokens now.stranger e in
       let same : after ≡ now = behind_is ∙ ap (λ ts. record { tokens = ts; stranger = now.stranger; length = now.length }) (ap others n.0 ∙ sym n.0) in
-      (subst (λ a. Stands rules whole a state valueless) (sym same) s, ap (λ c. c.tokens) same ∙ n.0, ap (λ c. c.stranger) same ∙ n.1)
+      (subst (λ a. HasRead rules whole a state valueless) (sym same) s, ap (λ c. c.tokens) same ∙ n.0, ap (λ c. c.stranger) same ∙ n.1)
 
   module _ (ended : now.tokens ≡ []) (clean : now.stranger ≡ None) where
     -- what is made of the text
@@ -159,5 +160,5 @@ module _ {T S X : Type 0} {rules : Rules T S X} {whole now : Cut T} {state : S} 
     end_halts stop.NoMemory e counted is = subst (λ f. Tells rules whole (Err f)) (sym is) tt
 
 -- at the begin all of a text is left
-pub start_stands : {T S X : Type 0} (rules : Rules T S X) (whole : Cut T) → Stands rules whole whole rules.start None
+pub start_stands : {T S X : Type 0} (rules : Rules T S X) (whole : Cut T) → HasRead rules whole whole rules.start None
 start_stands rules whole = record { read = []; parts = refl; stranger = refl; extent = refl; is_at = record { is = refl }; texts = tt; first = refl }

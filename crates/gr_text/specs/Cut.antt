@@ -1,13 +1,13 @@
 -- How a text is cut into tokens.
 use Rattle.std.specs.Prelude.{ℕ, zero, suc, ◌+◌, ◌-◌, if◌then◌else◌, Option, Some, None, List, [], ◌∷◌, length as count}
-use Rattle.gr_text.specs.Characters.{is_blank}
+use Rattle.gr_text.specs.Characters.{is_white_space}
 
 -- a token at its byte place
 pub record Placed (T : Type 0) : Type 0 where
   pub at : ℕ
   pub token : T
 
--- The tokens of a text before the first place where a character that is no blank begins no token; that place; the length of the text.
+-- The tokens of a text before the first place where a character that is no white space begins no token; that place; the length of the text.
 pub record Cut (T : Type 0) : Type 0 where
   pub tokens : List (Placed T)
   pub stranger : Option ℕ
@@ -26,7 +26,7 @@ cut_at at left behind (Some (token, len)) = with_token at token (behind (len - 1
 abbrev pub cut_from : {T : Type 0} → (List ℕ → Option (T × ℕ)) → ℕ → ℕ → List ℕ → Cut T
 cut_from token_at at pass [] = record { tokens = []; stranger = None; length = at }
 cut_from token_at at zero (c ∷ cs) =
-    if is_blank c then cut_from token_at (at + 1) zero cs
+    if is_white_space c then cut_from token_at (at + 1) zero cs
     else cut_at at (count (c ∷ cs)) (λ pass. cut_from token_at (at + 1) pass cs) (token_at (c ∷ cs))
 cut_from token_at at (suc pass) (c ∷ cs) = cut_from token_at (at + 1) pass cs
 

@@ -3,7 +3,8 @@ pub mod Strings
 pub mod Paths
 pub mod Digits
 pub mod Cut
+pub mod Fault
 pub mod Wrong
 pub mod Lexing
-pub mod Reading
+pub mod Inside
 pub mod Sentences

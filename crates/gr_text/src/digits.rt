@@ -23,11 +23,12 @@ fn count_digits(bytes: &[u8]) -> usize
         .count()
 }
 
-/// The number that the digits mean with which the bytes begin, and `None` where it is above 2^64 - 1. No digit means 0.
-pub fn number_from(bytes: &[u8]) -> Option<u64>
+/// The number that the digits mean with which the bytes begin, of which there are so many, and `None` where it is above 2^64 - 1. No digit means 0.
+pub fn number_from(bytes: &[u8], len: usize) -> Option<u64>
+    requires { len ≡ digits_len bytes.now }
     ensures { result ≡ word_of (number_from bytes.now) }
 {
-    let (digits, _) = bytes.split_at(digits_len(bytes));
+    let (digits, _) = bytes.split_at(len);
     let mut number = 0;
     for digit in digits {
         number = with_digit(number, *digit)?;

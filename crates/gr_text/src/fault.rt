@@ -1,53 +1,26 @@
 // What a text is refused for.
-use gr_base::{FaultKind, NoMemory};
-use std::alloc::{AllocError, AllocFailed};
+ghost use Rattle.std.specs.Prelude.{◌≡◌};
+ghost use Rattle.gr_text.specs.Fault.{refused_for};
+
+use gr_base::{Failure, FaultKind};
 use thiserror::Error;
 
+/// What a text is refused for, and where.
+#[derive(Clone, Copy, Debug, PartialEq, Eq, Drop, Error)]
+#[error("{kind:?} at {at}")]
+pub struct TextRefusal {
+    /// What for.
+    pub kind: FaultKind,
+    /// The byte place, counted from 0.
+    pub at: u64,
+}
+
 /// Why a text gave no tree.
-#[derive(Clone, Copy, Debug, PartialEq, Eq, Error)]
-pub enum TextFault {
-    /// The text is refused.
-    #[error("{kind:?} at {at}")]
-    Refused {
-        /// What for.
-        kind: FaultKind,
-        /// The byte place, counted from 0.
-        at: u64,
-    },
-    /// No memory was found.
-    #[error("no memory")]
-    NoMemory,
-}
+pub type TextFault = Failure<TextRefusal>;
 
-impl From<NoMemory> for TextFault {
-    ghost use Rattle.std.specs.Prelude.{◌≡◌};
-    ghost use Rattle.gr_text.specs.declared.fault.TextFault.TheVariants.{NoMemory as no_memory};
-
-    ghost from_gives = { λ _ fault. fault ≡ no_memory };
-
-    fn from(_error: NoMemory) -> TextFault {
-        TextFault::NoMemory
-    }
-}
-
-impl From<AllocError> for TextFault {
-    ghost use Rattle.std.specs.Prelude.{◌≡◌};
-    ghost use Rattle.gr_text.specs.declared.fault.TextFault.TheVariants.{NoMemory as no_memory};
-
-    ghost from_gives = { λ _ fault. fault ≡ no_memory };
-
-    fn from(_error: AllocError) -> TextFault {
-        TextFault::NoMemory
-    }
-}
-
-impl<T: Drop> From<AllocFailed<T>> for TextFault {
-    ghost use Rattle.std.specs.Prelude.{◌≡◌};
-    ghost use Rattle.gr_text.specs.declared.fault.TextFault.TheVariants.{NoMemory as no_memory};
-
-    ghost from_gives = { λ _ fault. fault ≡ no_memory };
-
-    fn from(_error: AllocFailed<T>) -> TextFault {
-        TextFault::NoMemory
-    }
+/// The fault of a text that is refused for this at this place.
+pub(crate) fn refused(kind: FaultKind, at: u64) -> TextFault
+    ensures { result ≡ refused_for kind at }
+{
+    Failure::Refused(TextRefusal { kind, at })
 }

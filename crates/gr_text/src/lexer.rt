@@ -3,7 +3,7 @@ ghost use Rattle.std.specs.Prelude.{◌≡◌, ◌+◌, ◌≤◌, ℕ, List, Op
 ghost use Rattle.gr_text.specs.Cut.{cut, cut_from};
 ghost use Rattle.gr_text.specs.Lexing.{Finds, IsHeld, IsReadable, behind, found_in, left_of};
 
-use crate::blanks::blanks_len;
+use crate::white_space::white_space_len;
 use gr_base::NoMemory;
 use std::alloc::Global;
 use std::marker::{Model, PhantomData};
@@ -37,7 +37,7 @@ pub struct Lexeme<T> {
 pub enum Found<T> {
     /// A token.
     Lexeme(Lexeme<T>),
-    /// The place of a character that is no blank and begins no token.
+    /// The place of a character that is no white space and begins no token.
     Stranger(u64),
     /// The end of the text.
     End,
@@ -88,7 +88,7 @@ impl<'a, T: Token> Lexer<'a, T> {
     }
 }
 
-/// What stands next, and how many bytes it takes with the blanks before it.
+/// What stands next, and how many bytes it takes with the white space before it.
 fn next_found<T: Token>(alloc: Global, at: u64, bytes: &[u8]) -> Result<(Found<T>, usize), NoMemory>
     requires { IsReadable at bytes.now }
     ensures found { IfOk result (λ next. next.0 ≡ found_in (cut_from T.starts at 0 bytes.now)) }
@@ -97,7 +97,7 @@ fn next_found<T: Token>(alloc: Global, at: u64, bytes: &[u8]) -> Result<(Found<T
     ensures text { IfOk result (λ next. Finds T.IsText next.0) }
     ensures rest { IfOk result (λ next. IsReadable (at + next.1) (drop next.1 bytes.now)) }
 {
-    let blanks = blanks_len(bytes);
+    let blanks = white_space_len(bytes);
     let rest = bytes.split_at(blanks).1;
     let at = at + blanks as u64;
     if rest.is_empty() {

@@ -1,7 +1,6 @@
-// What texts of queries and scripts share: blanks, strings, paths, numbers, and the fault of a text.
+// What texts of queries and scripts share: white space, strings, paths, numbers, and the fault of a text.
 #![tactic(auto)]
 
-mod blanks;
 mod digits;
 mod fault;
 mod lexer;
@@ -11,12 +10,13 @@ mod stop;
 mod strings;
 #[cfg(test)]
 mod tests;
+mod white_space;
 
-pub use blanks::{blanks_len, is_blank};
 pub use digits::{digits_len, number_from};
-pub use fault::TextFault;
+pub use fault::{TextFault, TextRefusal};
 pub use lexer::{Found, Lexeme, Lexer, Token};
 pub use paths::{is_name_start, path_len};
 pub use reader::{Reader, read};
 pub use stop::Stop;
 pub use strings::string_from;
+pub use white_space::{is_white_space, white_space_len};

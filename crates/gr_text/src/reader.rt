@@ -3,9 +3,9 @@ ghost use Rattle.std.specs.Prelude.{◌≡◌, Bool, List, Option, None, [], Res
 ghost use Rattle.gr_base.specs.declared.fault.FaultKind.{FaultKind as Kind};
 ghost use Rattle.gr_text.specs.Cut.{Cut, Placed, cut};
 ghost use Rattle.gr_text.specs.Lexing.{left_of, placed};
-ghost use Rattle.gr_text.specs.Reading.{Answers, Finishes, Outcome, Rules, Shrinks, Stands, Tells, Turned, first_with, rules_by};
+ghost use Rattle.gr_text.specs.Inside.Reading.{Answers, Finishes, Outcome, Rules, Shrinks, HasRead, Tells, Turned, first_with, rules_by};
 
-use crate::fault::TextFault;
+use crate::fault::{TextFault, refused};
 use crate::lexer::{Found, Lexeme, Lexer, Token};
 use crate::stop::Stop;
 use gr_base::FaultKind;
@@ -77,7 +77,7 @@ fn turn<R: Reader>(
     valueless: &mut Option<u64>,
     otherwise: FaultKind,
 ) -> Result<Progress, TextFault>
-    ensures turned { (start : R) (whole : Cut R.Token) → let rules : Rules R.Token R R.Tree = rules_by R.steps R.ends R.has_no_value R.Token.IsText otherwise start in Stands rules whole (left_of R.Token.starts lexer.old) reader.old valueless.old → Turned rules whole result (left_of R.Token.starts lexer.new) reader.new valueless.new }
+    ensures turned { (start : R) (whole : Cut R.Token) → let rules : Rules R.Token R R.Tree = rules_by R.steps R.ends R.has_no_value R.Token.IsText otherwise start in HasRead rules whole (left_of R.Token.starts lexer.old) reader.old valueless.old → Turned rules whole result (left_of R.Token.starts lexer.new) reader.new valueless.new }
     ensures shrinks { Shrinks result (left_of R.Token.starts lexer.old) (left_of R.Token.starts lexer.new) }
 {
     match lexer.next(alloc)? {
@@ -112,15 +112,12 @@ fn ended<R: Reader>(
     otherwise: FaultKind,
     len: u64,
 ) -> Result<R::Tree, TextFault>
-    ensures { (start : R) (whole now : Cut R.Token) → let rules : Rules R.Token R R.Tree = rules_by R.steps R.ends R.has_no_value R.Token.IsText otherwise start in Stands rules whole now reader valueless → now.tokens ≡ [] → now.stranger ≡ None → whole.length ≡ len → Tells rules whole result }
+    ensures { (start : R) (whole now : Cut R.Token) → let rules : Rules R.Token R R.Tree = rules_by R.steps R.ends R.has_no_value R.Token.IsText otherwise start in HasRead rules whole now reader valueless → now.tokens ≡ [] → now.stranger ≡ None → whole.length ≡ len → Tells rules whole result }
 {
     match reader.finish() {
         Ok(tree) => match valueless {
             None => Ok(tree),
-            Some(at) => Err(TextFault::Refused {
-                kind: FaultKind::BadNumber,
-                at,
-            }),
+            Some(at) => Err(refused(FaultKind::BadNumber, at)),
         },
         Err(stop) => Err(stop.fault(otherwise, len)),
     }

@@ -1,9 +1,9 @@
 // Why a step of a reader did not go on.
 ghost use Rattle.std.specs.Prelude.{◌≡◌};
-ghost use Rattle.gr_text.specs.Reading.{fault_of};
+ghost use Rattle.gr_text.specs.Inside.Reading.{fault_of};
 
-use crate::fault::TextFault;
-use gr_base::{FaultKind, NoMemory};
+use crate::fault::{TextFault, refused};
+use gr_base::{Failure, FaultKind, NoMemory};
 use std::alloc::{AllocError, AllocFailed};
 
 /// Why a step did not go on.
@@ -23,15 +23,9 @@ impl Stop {
         ensures { result ≡ fault_of otherwise self at }
     {
         match self {
-            Stop::Deep => TextFault::Refused {
-                kind: FaultKind::TooDeep,
-                at,
-            },
-            Stop::Wrong => TextFault::Refused {
-                kind: otherwise,
-                at,
-            },
-            Stop::NoMemory => TextFault::NoMemory,
+            Stop::Deep => refused(FaultKind::TooDeep, at),
+            Stop::Wrong => refused(otherwise, at),
+            Stop::NoMemory => Failure::NoMemory,
         }
     }
 }

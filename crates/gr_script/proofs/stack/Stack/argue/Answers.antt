@@ -1,6 +1,6 @@
 use Rattle.std.proofs.Common.{◌<◌, ◌+◌, refl, ◌∙◌, ap, vec_len}
 use Rattle.std.proofs.lemmas.Result.{on_ok_weaker}
-use Rattle.gr_script.specs.Machine.{argued}
+use Rattle.gr_script.specs.Inside.Machine.{argued}
 use Rattle.gr_script.proofs.Tops.{changed, counted}
 use Rattle.gr_script.proofs.stack.Stack.argue.Goals as goal
 
