@@ -1,7 +1,7 @@
 -- How arguments are read from words.
-use Rattle.std.proofs.Common.{◌≡◌, ◌<◌, ℕ, Bool, true, false, cond, List, [], ◌∷◌, ◌++◌, drop, length, Option, Some, None, option_and_then, option_map, Result, Ok, Err, IfOk, refl, sym, ap, ◌∙◌, append_assoc, arith}
-use Rattle.gr_cmdline.specs.Asked.{arguments, asked_by_words, asked_with, names_argument}
-use Rattle.gr_cmdline.specs.Reading.{ReadsArgument, arguments_behind, arguments_in}
+use Rattle.std.proofs.Common.{◌≡◌, ◌<◌, ℕ, Bool, true, false, cond, List, [], ◌∷◌, drop, length, Option, Some, None, option_and_then, option_map, Result, Ok, Err, IfOk, refl, sym, ap, ◌∙◌, arith}
+use Rattle.gr_cmdline.specs.Request.{arguments, request_of_words, request_with, names_argument}
+use Rattle.gr_cmdline.specs.Inside.Reading.{ReadsArgument, arguments_behind, arguments_in}
 use Rattle.gr_cmdline.specs.Words.{Word, words}
 use Rattle.gr_cmdline.specs.declared.argument.Argument.{Argument}
 use Rattle.gr_cmdline.specs.declared.argument.Argument.TheVariants.{Named, Placed}
@@ -57,18 +57,13 @@ pub IfOk-word : {E : Type 0} (r : Result (Result (Option Argument) Refused) E) (
 IfOk-word (Ok read) all behind old next new same longer reads = ReadsArgument-word all behind old next new read same longer reads
 IfOk-word (Err e) all behind old next new same longer reads = tt
 
--- an argument goes from those that are left to those that were read
-pub arguments-pushed : (read : List Argument) (argument : Argument) (found : Option (List Argument)) → option_map (λ others. read ++ others) (option_map (λ others. argument ∷ others) found) ≡ option_map (λ others. (read ++ argument ∷ []) ++ others) found
-arguments-pushed read argument None = refl
-arguments-pushed read argument (Some others) = ap Some (sym (append_assoc read (argument ∷ []) others))
-
 -- what a line asks for, by its first word and its arguments
-words-first : (word : Word) (found : Option (List Word)) → asked_by_words (option_map (λ others. word ∷ others) found) ≡ asked_with word.text (option_and_then arguments found)
+words-first : (word : Word) (found : Option (List Word)) → request_of_words (option_map (λ others. word ∷ others) found) ≡ request_with word.text (option_and_then arguments found)
 words-first word None = refl
 words-first word (Some others) = refl
 
-pub asked_by_words-first : (word : Word) (old next : List ℕ) → words old ≡ option_map (λ others. word ∷ others) (words next) → asked_by_words (words old) ≡ asked_with word.text (arguments_in next)
-asked_by_words-first word old next read = ap asked_by_words read ∙ words-first word (words next)
+pub request_of_words-first : (word : Word) (old next : List ℕ) → words old ≡ option_map (λ others. word ∷ others) (words next) → request_of_words (words old) ≡ request_with word.text (arguments_in next)
+request_of_words-first word old next read = ap request_of_words read ∙ words-first word (words next)
 
 -- a result that is told by an equation
 pub IfOk-told : {T E : Type 0} (r : Result T E) (x y : T) → x ≡ y → IfOk r (λ made. made ≡ x) → IfOk r (λ made. made ≡ y)

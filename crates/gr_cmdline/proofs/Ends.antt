@@ -4,7 +4,7 @@ use Rattle.std.proofs.lemmas.List.{length-append, take_all, take_more}
 use Rattle.std.proofs.lemmas.Bool.{ne_eqb}
 use Rattle.std.proofs.Common.{eq-eqb}
 use Rattle.gr_cmdline.specs.Line.{in_front, up_to_last, without_return}
-use Rattle.gr_cmdline.specs.Words.{is_blank}
+use Rattle.gr_base.specs.Text.{is_blank}
 
 -- a list is its front and its last element
 split_last : (line : List ℕ) → 0 < length line → line ≡ take (length line - 1) line ++ get_or line (length line - 1) 0 ∷ []

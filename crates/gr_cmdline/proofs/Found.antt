@@ -121,7 +121,7 @@ IsSearched-behind items at searched further (order, within, clear) low = (
       subst P same (All-drop (λ c. is_line_end c ≡ false) further _ (rw count at clear)),
 )
 
--- bytes are passed, and those that were searched behind them stay so
+-- bytes are behind_first_line, and those that were searched behind them stay so
 pub IsSearched-pass : (items : List ℕ) (at searched further : ℕ) → IsSearched items at searched → at + further ≤ length items → IsSearched items (at + further) (ord_max nat_cmp searched (at + further))
 IsSearched-pass items at searched further searched_to within =
     ⊎_elim

@@ -1,4 +1,6 @@
 mod Arguing
+mod BindingsLemmas
+mod Closing
 mod Counting
 mod Ends
 mod Found
@@ -7,4 +9,4 @@ mod Lines
 mod Loading
 mod Runs
 mod Spelling
-mod Steps
+mod Streams

@@ -7,9 +7,10 @@ use Rattle.std.proofs.lemmas.List.Elements.{All-cons, All-drop, All-head, All-ni
 use Rattle.std.proofs.lemmas.Str.{IsCharBoundary-before_ascii, IsCharBoundary-end, IsUtf8-drop, IsUtf8-take, chars-append, chars-nil, chars_past_char, encode_ascii, encodes-chars}
 use Rattle.memchr.specs.Find.{IsFirstByte, is_byte2}
 use Rattle.gr_cmdline.proofs.Found.{IsClear, IsClear-none, IsClear-some}
-use Rattle.gr_cmdline.proofs.Spelling.{Keeps, in_word-blank, in_word-keeps, with_text-text, with_text-before, with_text-nil}
-use Rattle.gr_cmdline.specs.Reading.{EndsRun}
-use Rattle.gr_cmdline.specs.Words.{Place, before, behind_backslash, behind_quotes, in_quotes, in_word, is_blank, rest_from, with_char, with_text, words}
+use Rattle.gr_cmdline.proofs.Spelling.{Keeps, in_word-blank, in_word-keeps, with_text-text, with_text-rest_with, with_text-nil}
+use Rattle.gr_cmdline.specs.Inside.Reading.{EndsRun}
+use Rattle.gr_base.specs.Text.{is_blank}
+use Rattle.gr_cmdline.specs.Words.{Place, rest_with, behind_backslash, behind_quotes, in_quotes, in_word, rest_from, with_char, with_text, words}
 
 -- a search for a byte that passes a test ends a run
 pub EndsRun-some : (test : ℕ → Bool) (bytes : List ℕ) (n : ℕ) → IsFirstByte test bytes (Some n) → EndsRun test bytes n
@@ -96,13 +97,13 @@ in_quotes-keeps quote c cs other =
     ∙ ap (λ (b : Bool). cond b (rest_from (behind_backslash quote) cs) (option_map (with_char c) (rest_from (in_quotes quote) cs))) both.1
 
 -- a word ends behind a run, at a blank or at the line's end
-pub word-run : (text old next new : List ℕ) (c : Option ℕ) → IsUtf8 text → old ≡ chars text ++ next → IsClear is_blank (chars text) → ((c : ℕ) (cs : List ℕ) → next ≡ c ∷ cs → is_blank c ≡ true) → MatchOption c ((next ≡ []) × (new ≡ [])) (λ c. next ≡ c ∷ new) → rest_from in_word old ≡ option_map (before text) (words new)
+pub word-run : (text old next new : List ℕ) (c : Option ℕ) → IsUtf8 text → old ≡ chars text ++ next → IsClear is_blank (chars text) → ((c : ℕ) (cs : List ℕ) → next ≡ c ∷ cs → is_blank c ≡ true) → MatchOption c ((next ≡ []) × (new ≡ [])) (λ c. next ≡ c ∷ new) → rest_from in_word old ≡ option_map (rest_with text) (words new)
 word-run text old next new c utf8 read clear stop taken =
     run-text in_word is_blank text old next in_word-keeps utf8 read clear
     ∙ ap (option_map (with_text text)) (ends c taken)
-    ∙ with_text-before text (words new)
+    ∙ with_text-rest_with text (words new)
   where
-    ends : (c : Option ℕ) → MatchOption c ((next ≡ []) × (new ≡ [])) (λ c. next ≡ c ∷ new) → rest_from in_word next ≡ option_map (before []) (words new)
+    ends : (c : Option ℕ) → MatchOption c ((next ≡ []) × (new ≡ [])) (λ c. next ≡ c ∷ new) → rest_from in_word next ≡ option_map (rest_with []) (words new)
     ends None (none, nothing) = rw (none, nothing) refl
     ends (Some c) is = in_word-blank next new c is (stop c new is)
 

@@ -3,15 +3,16 @@ use Rattle.std.proofs.Common.{◌≡◌, ◌<◌, ◌==◌, ℕ, Bool, true, fal
 use Rattle.std.proofs.lemmas.List.{append-nil}
 use Rattle.std.proofs.lemmas.Bool.{ne_eqb}
 use Rattle.std.proofs.lemmas.Bool.Decides.{nat_tests}
-use Rattle.gr_cmdline.specs.Reading.{Begins, ReadsEscaped, ReadsQuoted}
-use Rattle.gr_cmdline.specs.Words.{Place, Rest, Word, as_word, before, behind_backslash, behind_quotes, between, in_quotes, in_word, is_blank, is_quote, rest_from, with_char, with_text, words}
-use Rattle.gr_cmdline.specs.declared.words.Quoted.{Quoted}
-use Rattle.gr_cmdline.specs.declared.words.Quoted.TheVariants.{Char, Closed, Open}
+use Rattle.gr_cmdline.specs.Inside.Reading.{Begins, ReadsEscaped, ReadsInQuotes}
+use Rattle.gr_base.specs.Text.{is_blank}
+use Rattle.gr_cmdline.specs.Words.{Place, Rest, Word, as_word, rest_with, behind_backslash, behind_quotes, between, in_quotes, in_word, is_quote, rest_from, with_char, with_text, words}
+use Rattle.gr_cmdline.specs.declared.words.QuotedChar.{QuotedChar}
+use Rattle.gr_cmdline.specs.declared.words.QuotedChar.TheVariants.{Char, Closed, Open}
 
 -- a text in front of words that are told by the rest of a line
-before-words : (text : List ℕ) (found : Option Rest) → option_map (with_text text) (option_map (λ rest. before [] rest.words) found) ≡ option_map (before text) (option_map (λ rest. rest.words) found)
-before-words text None = refl
-before-words text (Some rest) = ap (λ front. Some (before front rest.words)) (append-nil text)
+rest_with-words : (text : List ℕ) (found : Option Rest) → option_map (with_text text) (option_map (λ rest. rest_with [] rest.words) found) ≡ option_map (rest_with text) (option_map (λ rest. rest.words) found)
+rest_with-words text None = refl
+rest_with-words text (Some rest) = ap (λ front. Some (rest_with front rest.words)) (append-nil text)
 
 -- at a place, a character that fails a test belongs to the word
 abbrev pub Keeps : Place → (ℕ → Bool) → Type 0
@@ -19,30 +20,30 @@ Keeps place test = (c : ℕ) (cs : List ℕ) → test c ≡ false → rest_from 
 
 -- a character that is no blank stays in a word
 pub in_word-keeps : Keeps in_word is_blank
-in_word-keeps c cs other = ap (λ (b : Bool). cond b (option_map (λ rest. before [] rest.words) (rest_from between cs)) (option_map (with_char c) (rest_from in_word cs))) other
+in_word-keeps c cs other = ap (λ (b : Bool). cond b (option_map (λ rest. rest_with [] rest.words) (rest_from between cs)) (option_map (with_char c) (rest_from in_word cs))) other
 
 -- a word that is not in quotes ends at a blank
-pub in_word-blank : (old new : List ℕ) (c : ℕ) → old ≡ c ∷ new → is_blank c ≡ true → rest_from in_word old ≡ option_map (before []) (words new)
+pub in_word-blank : (old new : List ℕ) (c : ℕ) → old ≡ c ∷ new → is_blank c ≡ true → rest_from in_word old ≡ option_map (rest_with []) (words new)
 in_word-blank old new c same blank =
     ap (rest_from in_word) same
-    ∙ ap (λ (b : Bool). cond b (option_map (λ rest. before [] rest.words) (rest_from between new)) (option_map (with_char c) (rest_from in_word new))) blank
+    ∙ ap (λ (b : Bool). cond b (option_map (λ rest. rest_with [] rest.words) (rest_from between new)) (option_map (with_char c) (rest_from in_word new))) blank
     ∙ ends (rest_from between new)
   where
-    ends : (found : Option Rest) → option_map (λ rest. before [] rest.words) found ≡ option_map (before []) (option_map (λ rest. rest.words) found)
+    ends : (found : Option Rest) → option_map (λ rest. rest_with [] rest.words) found ≡ option_map (rest_with []) (option_map (λ rest. rest.words) found)
     ends None = refl
     ends (Some rest) = refl
 
 -- a word in quotes ends where a blank follows
-pub behind_quotes-blank : (text old new : List ℕ) (c : ℕ) → old ≡ c ∷ new → is_blank c ≡ true → option_map (with_text text) (rest_from behind_quotes old) ≡ option_map (before text) (words new)
+pub behind_quotes-blank : (text old new : List ℕ) (c : ℕ) → old ≡ c ∷ new → is_blank c ≡ true → option_map (with_text text) (rest_from behind_quotes old) ≡ option_map (rest_with text) (words new)
 behind_quotes-blank text old new c same blank =
     ap (λ line. option_map (with_text text) (rest_from behind_quotes line)) same
-    ∙ ap (λ (b : Bool). option_map (with_text text) (cond b (option_map (λ rest. before [] rest.words) (rest_from between new)) None)) blank
-    ∙ before-words text (rest_from between new)
+    ∙ ap (λ (b : Bool). option_map (with_text text) (cond b (option_map (λ rest. rest_with [] rest.words) (rest_from between new)) None)) blank
+    ∙ rest_with-words text (rest_from between new)
 
 -- a text, and what stands in front of it
 pub with_text-text : (front text : List ℕ) (found : Option Rest) → option_map (with_text front) (option_map (with_text text) found) ≡ option_map (with_text (front ++ text)) found
 with_text-text front text None = refl
-with_text-text front text (Some rest) = ap (λ text. Some (before text rest.words)) (sym (append_assoc front text rest.text))
+with_text-text front text (Some rest) = ap (λ text. Some (rest_with text rest.words)) (sym (append_assoc front text rest.text))
 
 -- nothing in front changes nothing
 pub with_text-nil : (found : Option Rest) → found ≡ option_map (with_text []) found
@@ -50,9 +51,9 @@ with_text-nil None = refl
 with_text-nil (Some rest) = refl
 
 -- the text of a word, where it ends
-pub with_text-before : (text : List ℕ) (found : Option (List Word)) → option_map (with_text text) (option_map (before []) found) ≡ option_map (before text) found
-with_text-before text None = refl
-with_text-before text (Some others) = ap (λ front. Some (before front others)) (append-nil text)
+pub with_text-rest_with : (text : List ℕ) (found : Option (List Word)) → option_map (with_text text) (option_map (rest_with []) found) ≡ option_map (rest_with text) found
+with_text-rest_with text None = refl
+with_text-rest_with text (Some others) = ap (λ front. Some (rest_with front others)) (append-nil text)
 
 -- a quote is no blank
 quote_no_blank : (c : ℕ) → is_quote c ≡ true → is_blank c ≡ false
@@ -84,11 +85,11 @@ behind_quote c cs quote =
     ∙ ap (λ (b : Bool). option_map (λ rest. rest.words) (cond b (option_map (as_word true) (rest_from (in_quotes c) cs)) (option_map (λ rest. as_word false (with_char c rest)) (rest_from in_word cs)))) quote
 
 -- a word in quotes, and the words after it
-pub words-quoted : (c : ℕ) (cs text new : List ℕ) → is_quote c ≡ true → rest_from (in_quotes c) cs ≡ option_map (before text) (words new) → words (c ∷ cs) ≡ option_map (λ others. record { text = text; quoted = true } ∷ others) (words new)
+pub words-quoted : (c : ℕ) (cs text new : List ℕ) → is_quote c ≡ true → rest_from (in_quotes c) cs ≡ option_map (rest_with text) (words new) → words (c ∷ cs) ≡ option_map (λ others. record { text = text; quoted = true } ∷ others) (words new)
 words-quoted c cs text new quote read =
     behind_quote c cs quote ∙ ap (λ found. option_map (λ rest. rest.words) (option_map (as_word true) found)) read ∙ whole (words new)
   where
-    whole : (found : Option (List Word)) → option_map (λ rest. rest.words) (option_map (as_word true) (option_map (before text) found)) ≡ option_map (λ others. record { text = text; quoted = true } ∷ others) found
+    whole : (found : Option (List Word)) → option_map (λ rest. rest.words) (option_map (as_word true) (option_map (rest_with text) found)) ≡ option_map (λ others. record { text = text; quoted = true } ∷ others) found
     whole None = refl
     whole (Some others) = refl
 
@@ -97,7 +98,7 @@ pub words-unclosed : (c : ℕ) (cs : List ℕ) → is_quote c ≡ true → rest_
 words-unclosed c cs quote open_end = behind_quote c cs quote ∙ ap (λ found. option_map (λ rest. rest.words) (option_map (as_word true) found)) open_end
 
 -- a word that is not in quotes, and the words after it
-pub words-unquoted : (line text new : List ℕ) (c : ℕ) → Begins c line → is_blank c ≡ false → is_quote c ≡ false → rest_from in_word line ≡ option_map (before text) (words new) → words line ≡ option_map (λ others. record { text = text; quoted = false } ∷ others) (words new)
+pub words-unquoted : (line text new : List ℕ) (c : ℕ) → Begins c line → is_blank c ≡ false → is_quote c ≡ false → rest_from in_word line ≡ option_map (rest_with text) (words new) → words line ≡ option_map (λ others. record { text = text; quoted = false } ∷ others) (words new)
 words-unquoted line text new c (cs, is) blank quote read =
     ap words is ∙ words-begun c cs blank
     ∙ ap (λ (b : Bool). option_map (λ rest. rest.words) (cond b (option_map (as_word true) (rest_from (in_quotes c) cs)) (option_map (λ rest. as_word false (with_char c rest)) (rest_from in_word cs)))) quote
@@ -112,13 +113,13 @@ words-unquoted line text new c (cs, is) blank quote read =
     split None = refl
     split (Some rest) = refl
 
-    whole : (found : Option (List Word)) → option_map (λ rest. rest.words) (option_map (as_word false) (option_map (before text) found)) ≡ option_map (λ others. record { text = text; quoted = false } ∷ others) found
+    whole : (found : Option (List Word)) → option_map (λ rest. rest.words) (option_map (as_word false) (option_map (rest_with text) found)) ≡ option_map (λ others. record { text = text; quoted = false } ∷ others) found
     whole None = refl
     whole (Some others) = refl
 
 -- a backslash in quotes
-pub ReadsQuoted-escaped : (quote c : ℕ) (old next new : List ℕ) (read : Quoted) → old ≡ c ∷ next → (c ≡ quote → ⊥) → c ≡ 92 → ReadsEscaped quote next new read → ReadsQuoted quote old new read
-ReadsQuoted-escaped quote c old next new read same other slash reads = go read reads
+pub ReadsInQuotes-escaped : (quote c : ℕ) (old next new : List ℕ) (read : QuotedChar) → old ≡ c ∷ next → (c ≡ quote → ⊥) → c ≡ 92 → ReadsEscaped quote next new read → ReadsInQuotes quote old new read
+ReadsInQuotes-escaped quote c old next new read same other slash reads = go read reads
   where
     skips : rest_from (in_quotes quote) old ≡ rest_from (behind_backslash quote) next
     skips =
@@ -129,7 +130,7 @@ ReadsQuoted-escaped quote c old next new read same other slash reads = go read r
     longer : length next < length old
     longer = omega (arith, ap length same)
 
-    go : (read : Quoted) → ReadsEscaped quote next new read → ReadsQuoted quote old new read
+    go : (read : QuotedChar) → ReadsEscaped quote next new read → ReadsInQuotes quote old new read
     go (Char d) reads = (skips ∙ reads.0, omega (arith, longer, reads.1))
     go Closed reads = absurd reads
     go Open reads = skips ∙ reads

@@ -19,9 +19,9 @@ abbrev pub is_given : List (Param × List ℕ) → Param → Bool
 is_given given param = is_some (value_of given param)
 
 -- a text that counts as not given where it is empty
-abbrev pub given_text : List ℕ → Option (List ℕ)
-given_text [] = None
-given_text (c ∷ cs) = Some (c ∷ cs)
+abbrev pub unless_empty : List ℕ → Option (List ℕ)
+unless_empty [] = None
+unless_empty (c ∷ cs) = Some (c ∷ cs)
 
 -- load data as a value, where there are some
 abbrev pub data_value : Option (List ℕ) → List (Param × List ℕ)

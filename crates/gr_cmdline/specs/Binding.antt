@@ -3,13 +3,12 @@ use Rattle.std.specs.Prelude.{ℕ, ◌+◌, ◌||◌, not, Bool, if◌then◌els
 use Rattle.std.specs.List.{list_any}
 use Rattle.gr_base.specs.declared.fault.FaultKind.{FaultKind}
 use Rattle.gr_base.specs.declared.fault.FaultKind.TheVariants.{MissingArgument, RepeatedArgument, UnknownArgument, UnknownCommand}
-use Rattle.gr_cmdline.specs.Arguments.{Arguments, given_text, is_filled, is_given}
+use Rattle.gr_cmdline.specs.Arguments.{Arguments, unless_empty, is_filled, is_given}
 use Rattle.gr_cmdline.specs.Names.{is_same, param_name, verb_named}
 use Rattle.gr_cmdline.specs.Parameters.{param_named, param_placed, required}
+use Rattle.gr_cmdline.specs.Request.{Request}
 use Rattle.gr_cmdline.specs.declared.argument.Argument.{Argument}
 use Rattle.gr_cmdline.specs.declared.argument.Argument.TheVariants.{Named, Placed}
-use Rattle.gr_cmdline.specs.declared.argument.Asked.{Asked}
-use Rattle.gr_cmdline.specs.declared.bound.Bound.{Bound}
 use Rattle.gr_cmdline.specs.declared.command.Command.{Command}
 use Rattle.gr_cmdline.specs.declared.param.Param.{Param}
 use Rattle.gr_cmdline.specs.declared.param.Param.TheVariants.{Filter, Id, Key}
@@ -20,6 +19,12 @@ use Rattle.gr_cmdline.specs.declared.verb.Verb.TheVariants.{Delete, TableCreate,
 -- a line that is refused by a name
 abbrev pub refused : FaultKind → List ℕ → Refused
 refused kind name = record { kind = kind; name = name }
+
+-- an argument with its parameter: the name by which it speaks of it, where it has one, and the value
+pub record Bound : Type 0 where
+  pub param : Param
+  pub label : Option (List ℕ)
+  pub value : List ℕ
 
 -- an argument of this name or value, bound to its parameter; one without a parameter is refused
 abbrev pub bound_to : Option Param → List ℕ → Option (List ℕ) → List ℕ → Result Bound Refused
@@ -96,13 +101,13 @@ unrepeated verb given None = complete verb given (missing verb given.given)
 -- a command with its arguments, unless one of them has no parameter
 abbrev pub with_bound : Verb → List ℕ → Result (List Bound) Refused → Result Command Refused
 with_bound verb suffix (Err refusal) = Err refusal
-with_bound verb suffix (Ok bound) = unrepeated verb (record { suffix = given_text suffix; given = given_of bound }) (repeated_behind [] bound)
+with_bound verb suffix (Ok bound) = unrepeated verb (record { suffix = unless_empty suffix; given = given_of bound }) (repeated_behind [] bound)
 
 -- the command that is asked for, unless its name is none
-abbrev pub with_verb : Option Verb → Asked → Result Command Refused
+abbrev pub with_verb : Option Verb → Request → Result Command Refused
 with_verb None asked = Err (refused UnknownCommand asked.name)
 with_verb (Some verb) asked = with_bound verb asked.suffix (bound_from verb 0 asked.arguments)
 
 -- the command that is asked for
-abbrev pub command_of : Asked → Result Command Refused
+abbrev pub command_of : Request → Result Command Refused
 command_of asked = with_verb (verb_named asked.name) asked

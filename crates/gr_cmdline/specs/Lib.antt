@@ -2,10 +2,10 @@ pub mod Names
 pub mod Parameters
 pub mod Arguments
 pub mod Words
-pub mod Asked
-pub mod Reading
+pub mod Request
 pub mod Binding
 pub mod Line
 pub mod LoadData
 pub mod Commands
 pub mod Stream
+pub mod Inside

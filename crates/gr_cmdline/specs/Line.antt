@@ -1,18 +1,17 @@
 -- What one line asks for.
 use Rattle.std.specs.Prelude.{ℕ, ◌==◌, ◌&&◌, Bool, true, if◌then◌else◌, nat_lt, Option, Some, None, Result, Ok, Err, List, [], ◌∷◌, length}
-use Rattle.std.specs.Str.{is_utf8}
+use Rattle.std.specs.Str.{byte, is_utf8}
+use Rattle.gr_base.specs.Text.{is_blank}
 use Rattle.gr_base.specs.declared.fault.FaultKind.TheVariants.{LineTooLong, NotText}
-use Rattle.gr_cmdline.specs.Asked.{asked_of}
+use Rattle.gr_cmdline.specs.Request.{Request, request_of}
 use Rattle.gr_cmdline.specs.Binding.{command_of, refused}
-use Rattle.gr_cmdline.specs.Words.{is_blank}
-use Rattle.gr_cmdline.specs.declared.argument.Asked.{Asked}
 use Rattle.gr_cmdline.specs.declared.command.Command.{Command}
 use Rattle.gr_cmdline.specs.declared.refused.Refused.{Refused}
 
 -- a line without the one carriage return that may stand at its end
 abbrev pub without_return : List ℕ → List ℕ
 without_return [] = []
-without_return (c ∷ []) = if c == 13 then [] else c ∷ []
+without_return (c ∷ []) = if c == byte "\r" then [] else c ∷ []
 without_return (c ∷ d ∷ cs) = c ∷ without_return (d ∷ cs)
 
 -- a line from its first byte that is no blank
@@ -36,10 +35,10 @@ trimmed line = from_first (up_to_last line)
 -- an empty line and a comment line ask for nothing
 abbrev pub is_skipped : List ℕ → Bool
 is_skipped [] = true
-is_skipped (c ∷ cs) = c == 35
+is_skipped (c ∷ cs) = c == byte "#"
 
 -- the command that is asked for, where the line can be read
-abbrev pub command_asked : Result Asked Refused → Result Command Refused
+abbrev pub command_asked : Result Request Refused → Result Command Refused
 command_asked (Err refusal) = Err refusal
 command_asked (Ok asked) = command_of asked
 
@@ -47,7 +46,7 @@ command_asked (Ok asked) = command_of asked
 abbrev pub command_of_line : ℕ → List ℕ → List ℕ → Result Command Refused
 command_of_line limit line text =
     if nat_lt limit (length line) then Err (refused LineTooLong [])
-    else (if is_utf8 text then command_asked (asked_of text) else Err (refused NotText []))
+    else (if is_utf8 text then command_asked (request_of text) else Err (refused NotText []))
 
 -- what a line asks for, where it asks for something; its length is counted before blanks are dropped
 abbrev pub line_of : ℕ → List ℕ → Option (Result Command Refused)

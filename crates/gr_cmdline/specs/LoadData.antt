@@ -1,15 +1,13 @@
 -- Load data on the lines that follow a load.
-use Rattle.std.specs.Prelude.{ℕ, ◌≡◌, ◌≤◌, ◌+◌, ◌-◌, ◌==◌, ◌&&◌, not, Bool, true, false, if◌then◌else◌, nat_le, List, [], ◌∷◌, ◌++◌, fold, length}
-use Rattle.std.specs.Str.{is_utf8}
+use Rattle.std.specs.Prelude.{ℕ, ◌-◌, ◌==◌, ◌&&◌, not, Bool, true, false, if◌then◌else◌, List, [], ◌∷◌, ◌++◌, map}
+use Rattle.std.specs.List.{count_by, list_any}
+use Rattle.std.specs.Str.{byte, is_utf8}
 use Rattle.gr_base.specs.Fault.{fault_named}
 use Rattle.gr_base.specs.declared.fault.FaultKind.TheVariants.{LineTooLong, NotText, UnfinishedLoad}
 use Rattle.gr_cmdline.specs.Arguments.{is_given}
-use Rattle.gr_cmdline.specs.declared.brackets.Brackets.{Brackets}
-use Rattle.gr_cmdline.specs.declared.brackets.Inside.{Inside}
-use Rattle.gr_cmdline.specs.declared.brackets.Inside.TheVariants.{Data, Quoted, Backslash, Closed}
 use Rattle.gr_cmdline.specs.declared.command.Command.{Command}
-use Rattle.gr_cmdline.specs.declared.command.Next.{Next}
-use Rattle.gr_cmdline.specs.declared.command.Next.TheVariants.{Command as Asked, Bad}
+use Rattle.gr_cmdline.specs.declared.command.Item.{Item}
+use Rattle.gr_cmdline.specs.declared.command.Item.TheVariants.{Command as Accepted, Bad}
 use Rattle.gr_cmdline.specs.declared.param.Param.TheVariants.{Values}
 use Rattle.gr_cmdline.specs.declared.verb.Verb.{Verb}
 use Rattle.gr_cmdline.specs.declared.verb.Verb.TheVariants.{Delete, TableCreate, ColumnCreate, Load, Select, Dump}
@@ -33,71 +31,53 @@ is_load Dump = false
 abbrev pub awaits_data : Command → Bool
 awaits_data command = is_load command.verb && not (is_given command.args.given Values)
 
--- so many brackets are open, and the next byte stands here
-abbrev pub at_depth : ℕ → Inside → Brackets
-at_depth depth inside = record { depth = depth; inside = inside }
+-- where a byte of load data stands: a string runs from a double quote to the next one, and in it a backslash skips one byte
+pub data Place : Type 0 where
+  outside : Place
+  in_string : Place
+  behind_backslash : Place
 
--- a byte outside strings; the count ends where it returns to 0
-abbrev pub after_data : ℕ → ℕ → Brackets
-after_data depth c =
-    if c == 91 then at_depth (depth + 1) Data
-    else (if c == 93 then at_depth (depth - 1) (if nat_le depth 1 then Closed else Data)
-    else at_depth depth (if c == 34 then Quoted else Data))
+-- the bytes that stand outside strings
+abbrev pub outside_from : Place → List ℕ → List ℕ
+outside_from outside [] = []
+outside_from outside (c ∷ cs) = if c == byte "\"" then outside_from in_string cs else c ∷ outside_from outside cs
+outside_from in_string [] = []
+outside_from in_string (c ∷ cs) =
+    if c == byte "\"" then outside_from outside cs
+    else (if c == byte "\\" then outside_from behind_backslash cs else outside_from in_string cs)
+outside_from behind_backslash [] = []
+outside_from behind_backslash (c ∷ cs) = outside_from in_string cs
 
--- a byte inside a string, where a backslash skips one
-abbrev pub after_quoted : ℕ → ℕ → Brackets
-after_quoted depth c = at_depth depth (if c == 34 then Data else (if c == 92 then Backslash else Quoted))
+-- the beginnings of a list, from that of one byte to the whole
+abbrev pub beginnings : List ℕ → List (List ℕ)
+beginnings [] = []
+beginnings (c ∷ cs) = (c ∷ []) ∷ map (λ front. c ∷ front) (beginnings cs)
 
--- how a byte is counted, by where it stands
-abbrev pub after_inside : Inside → ℕ → ℕ → Brackets
-after_inside Data depth c = after_data depth c
-after_inside Quoted depth c = after_quoted depth c
-after_inside Backslash depth c = at_depth depth Quoted
-after_inside Closed depth c = at_depth depth Closed
-
--- how a byte is counted
-abbrev pub after_byte : Brackets → ℕ → Brackets
-after_byte count c = after_inside count.inside count.depth c
-
--- the brackets that are open behind a text
-abbrev pub counted : List ℕ → Brackets
-counted text = fold after_byte (at_depth 0 Data) text
-
--- whether the count has returned to 0
-abbrev pub is_closed : Inside → Bool
-is_closed Data = false
-is_closed Quoted = false
-is_closed Backslash = false
-is_closed Closed = true
+-- how many `[` of these bytes are open
+abbrev pub open_brackets : List ℕ → ℕ
+open_brackets bytes = count_by (λ c. c == byte "[") bytes - count_by (λ c. c == byte "]") bytes
 
 -- whether the number of open `[` outside strings returns to 0 in a text
 abbrev pub closes : List ℕ → Bool
-closes text = is_closed (counted text).inside
+closes text = list_any (λ front. open_brackets front == 0) (beginnings (outside_from outside text))
 
 -- data so far are whole: a line that does not begin with `[` alone, or lines up to the one that closes the first `[`
 abbrev pub is_whole : List ℕ → Bool
 is_whole [] = false
-is_whole (c ∷ cs) = if c == 91 then closes (c ∷ cs) else true
+is_whole (c ∷ cs) = if c == byte "[" then closes (c ∷ cs) else true
 
 -- a line behind the data so far
 abbrev pub with_line : List ℕ → List ℕ → List ℕ
 with_line [] line = line
-with_line (c ∷ cs) line = (c ∷ cs) ++ 10 ∷ line
+with_line (c ∷ cs) line = (c ∷ cs) ++ byte "\n" ∷ line
 
 -- a load with its data as the last of its values
 abbrev pub with_data : Command → List ℕ → Command
 with_data command text = record { verb = command.verb; args = record { suffix = command.args.suffix; given = command.args.given ++ (Values, text) ∷ [] } }
 
 -- what a load gives once its data are taken, whole or not
-abbrev pub loaded : Waiting → Bool → Next
+abbrev pub loaded : Waiting → Bool → Item
 loaded waiting whole =
     if waiting.too_long then Bad (fault_named LineTooLong [])
-    else (if is_utf8 waiting.text then (if whole then Asked (with_data waiting.command waiting.text) else Bad (fault_named UnfinishedLoad []))
+    else (if is_utf8 waiting.text then (if whole then Accepted (with_data waiting.command waiting.text) else Bad (fault_named UnfinishedLoad []))
     else Bad (fault_named NotText []))
-
--- what a load keeps beside its data: the brackets that are open behind them, and an empty name; values are not given
-pub record IsCounted (command : Command) (text : List ℕ) (count : Brackets) (unnamed : List ℕ) : Type 0 where
-  pub counts : count ≡ counted text
-  pub bound : count.depth ≤ length text
-  pub empty : unnamed ≡ []
-  pub awaits : is_given command.args.given Values ≡ false

@@ -1,16 +1,10 @@
 -- The names of the commands and of their parameters.
-use Rattle.std.specs.Prelude.{ℕ, ◌==◌, Bool, Option, Some, None, option_to_list, List, ◌∷◌, find, codes}
+use Rattle.std.specs.Prelude.{ℕ, ◌==◌, Bool, Option, Some, None, option_to_list, List, [], ◌∷◌, bytes_eq, find, codes}
 use Rattle.std.specs.List.{list_any}
-use Rattle.std.specs.Cmp.Lexicographic.{pointwise}
 use Rattle.gr_cmdline.specs.declared.verb.Verb.{Verb}
 use Rattle.gr_cmdline.specs.declared.verb.Verb.TheVariants.{TableCreate, ColumnCreate, Load, Delete, Select, Dump}
-use Rattle.gr_cmdline.specs.declared.verb.TheConstants.{VERBS}
 use Rattle.gr_cmdline.specs.declared.param.Param.{Param}
 use Rattle.gr_cmdline.specs.declared.param.Param.TheVariants.{Name, Flags, KeyType, ValueType, DefaultTokenizer, Normalizer, TokenFilters, Table, ColumnType, Source, Values, Columns, Ifexists, InputType, Key, Id, Filter, MatchColumns, Query, SortKeys, OutputColumns, Offset, Limit, Drilldown, DrilldownSortKeys, DrilldownOutputColumns, DrilldownOffset, DrilldownLimit, Cache, MatchEscalationThreshold, CommandVersion, OutputType}
-
--- whether two texts are one, byte for byte
-abbrev pub is_same_text : List ℕ → List ℕ → Bool
-is_same_text = pointwise ◌==◌
 
 -- the name by which a line asks for a command
 abbrev pub verb_name : Verb → List ℕ
@@ -21,9 +15,13 @@ verb_name Delete = codes "delete"
 verb_name Select = codes "select"
 verb_name Dump = codes "dump"
 
+-- the six commands
+abbrev pub verbs : List Verb
+verbs = TableCreate ∷ ColumnCreate ∷ Load ∷ Delete ∷ Select ∷ Dump ∷ []
+
 -- the command of a name
 abbrev pub verb_named : List ℕ → Option Verb
-verb_named name = find (λ verb. is_same_text (verb_name verb) name) VERBS
+verb_named name = find (λ verb. bytes_eq (verb_name verb) name) verbs
 
 -- a parameter's own name
 abbrev pub param_name : Param → List ℕ
@@ -62,38 +60,9 @@ param_name OutputType = codes "output_type"
 
 -- a parameter's older name, where it has one
 abbrev pub other_name : Param → Option (List ℕ)
-other_name Name = None
-other_name Flags = None
-other_name KeyType = None
-other_name ValueType = None
-other_name DefaultTokenizer = None
-other_name Normalizer = None
-other_name TokenFilters = None
-other_name Table = None
-other_name ColumnType = None
-other_name Source = None
-other_name Values = None
-other_name Columns = None
-other_name Ifexists = None
-other_name InputType = None
-other_name Key = None
-other_name Id = None
-other_name Filter = None
-other_name MatchColumns = None
-other_name Query = None
 other_name SortKeys = Some (codes "sortby")
-other_name OutputColumns = None
-other_name Offset = None
-other_name Limit = None
-other_name Drilldown = None
 other_name DrilldownSortKeys = Some (codes "drilldown_sortby")
-other_name DrilldownOutputColumns = None
-other_name DrilldownOffset = None
-other_name DrilldownLimit = None
-other_name Cache = None
-other_name MatchEscalationThreshold = None
-other_name CommandVersion = None
-other_name OutputType = None
+other_name _ = None
 
 -- all names of a parameter
 abbrev pub names : Param → List (List ℕ)
@@ -101,7 +70,7 @@ names param = param_name param ∷ option_to_list (other_name param)
 
 -- whether a parameter has this name
 abbrev pub has_name : Param → List ℕ → Bool
-has_name param name = list_any (λ own. is_same_text own name) (names param)
+has_name param name = list_any (λ own. bytes_eq own name) (names param)
 
 -- a parameter's place among all
 abbrev pub number_of : Param → ℕ

@@ -2,7 +2,7 @@
 ghost use Rattle.std.specs.Prelude.{◌≡◌, ◌++◌, ◌∷◌, [], false, IsUtf8, option_map, string_bytes, true};
 ghost use Rattle.std.specs.List.{AllByRecursion};
 ghost use Rattle.gr_cmdline.specs.declared.param.Param.TheVariants.{Values};
-ghost use Rattle.gr_cmdline.specs.Arguments.{IsText, data_value, given_text, value_of};
+ghost use Rattle.gr_cmdline.specs.Arguments.{IsText, data_value, unless_empty, value_of};
 
 use super::Param;
 use gr_base::Bytes;
@@ -21,13 +21,13 @@ pub struct Args {
 impl Model for Args {
     ghost use Rattle.std.specs.Prelude.{◌++◌, IsUtf8, string_bytes};
     ghost use Rattle.std.specs.List.{AllByRecursion};
-    ghost use Rattle.gr_cmdline.specs.Arguments.{Arguments, IsText, data_value, given_text};
+    ghost use Rattle.gr_cmdline.specs.Arguments.{Arguments, IsText, data_value, unless_empty};
 
     ghost Value = { Arguments };
 
     ghost view = { λ args. record {
-      suffix = given_text args.suffix;
-      given = args.given.items ++ data_value (given_text (string_bytes args.loaded));
+      suffix = unless_empty args.suffix;
+      given = args.given.items ++ data_value (unless_empty (string_bytes args.loaded));
     } };
 
     ghost invariant = { λ args. AllByRecursion (λ value. IsText value.1) args.given.items × IsUtf8 args.suffix };
@@ -51,7 +51,7 @@ impl Args {
     pub fn suffix(&self) -> Option<&str>
         ensures { option_map (λ text. text.now) result ≡ self.now.suffix }
     {
-        given_text(self.suffix.as_text())
+        unless_empty(self.suffix.as_text())
     }
 
     /// Whether a parameter is given.
@@ -67,7 +67,7 @@ impl Args {
     pub(crate) fn new(alloc: Global, given: Vec<(Param, Bytes)>, suffix: Bytes) -> Args
         requires given { AllByRecursion (λ value. IsText value.1) given.items }
         requires suffix { IsUtf8 suffix }
-        ensures { result ≡ record { suffix = given_text suffix; given = given.items } }
+        ensures { result ≡ record { suffix = unless_empty suffix; given = given.items } }
     {
         Args {
             given,
@@ -91,8 +91,8 @@ impl Args {
 }
 
 /// A text, where it is not empty.
-fn given_text(text: &str) -> Option<&str>
-    ensures { option_map (λ given. given.now) result ≡ given_text text.now }
+fn unless_empty(text: &str) -> Option<&str>
+    ensures { option_map (λ given. given.now) result ≡ unless_empty text.now }
 {
     if text.is_empty() { None } else { Some(text) }
 }
@@ -114,10 +114,10 @@ fn value_among(given: &[(Param, Bytes)], param: Param) -> Option<&str>
 
 /// Load data as the value of a parameter, where there are some.
 fn data_as(loaded: &str, param: Param) -> Option<&str>
-    ensures { option_map (λ text. text.now) result ≡ value_of (data_value (given_text loaded.now)) param }
+    ensures { option_map (λ text. text.now) result ≡ value_of (data_value (unless_empty loaded.now)) param }
 {
     if Param::Values.is_same(param) {
-        given_text(loaded)
+        unless_empty(loaded)
     } else {
         None
     }

@@ -1,7 +1,7 @@
 // The brackets that are open in load data.
 ghost use Rattle.std.specs.Prelude.{◌≡◌, ◌+◌, ◌<◌, ◌≤◌, ◌^◌, fold, length, take};
 ghost use Rattle.gr_cmdline.specs.declared.brackets.Inside.TheVariants.{Data};
-ghost use Rattle.gr_cmdline.specs.LoadData.{after_data, after_quoted, at_depth};
+ghost use Rattle.gr_cmdline.specs.Inside.Brackets.{after_data, after_in_string, at_depth};
 
 use crate::scan::{len_before_three, len_before_two};
 
@@ -11,7 +11,7 @@ pub(crate) enum Inside {
     /// Outside strings.
     Data,
     /// In a string.
-    Quoted,
+    InString,
     /// In a string, behind a backslash.
     Backslash,
     /// Behind the bracket that closed the first.
@@ -26,7 +26,7 @@ pub(crate) struct Brackets {
 }
 
 impl Brackets {
-    ghost use Rattle.gr_cmdline.specs.LoadData.{after_byte, at_depth, is_closed};
+    ghost use Rattle.gr_cmdline.specs.Inside.Brackets.{after_byte, at_depth, is_closed};
 
     /// Before the first byte.
     pub(crate) fn new() -> Brackets
@@ -64,7 +64,7 @@ impl Brackets {
     {
         match self.inside {
             Inside::Data => len_before_three(bytes, b'[', b']', b'"'),
-            Inside::Quoted => len_before_two(bytes, b'"', b'\\'),
+            Inside::InString => len_before_two(bytes, b'"', b'\\'),
             Inside::Backslash => 0,
             Inside::Closed => bytes.len(),
         }
@@ -86,8 +86,8 @@ impl Brackets {
     {
         match self.inside {
             Inside::Data => after_data(self.depth, c),
-            Inside::Quoted => after_quoted(self.depth, c),
-            Inside::Backslash => at_depth(self.depth, Inside::Quoted),
+            Inside::InString => after_in_string(self.depth, c),
+            Inside::Backslash => at_depth(self.depth, Inside::InString),
             Inside::Closed => self,
         }
     }
@@ -103,7 +103,7 @@ fn after_data(depth: u64, c: u8) -> Brackets
     match c {
         b'[' => at_depth(depth + 1, Inside::Data),
         b']' => after_closing(depth),
-        b'"' => at_depth(depth, Inside::Quoted),
+        b'"' => at_depth(depth, Inside::InString),
         _ => at_depth(depth, Inside::Data),
     }
 }
@@ -123,14 +123,14 @@ fn after_closing(depth: u64) -> Brackets
 
 /// A byte in a string.
 #[inline(always)]
-fn after_quoted(depth: u64, c: u8) -> Brackets
-    ensures exact { result ≡ after_quoted depth c }
+fn after_in_string(depth: u64, c: u8) -> Brackets
+    ensures exact { result ≡ after_in_string depth c }
     ensures bound { result.depth ≤ depth }
 {
     match c {
         b'"' => at_depth(depth, Inside::Data),
         b'\\' => at_depth(depth, Inside::Backslash),
-        _ => at_depth(depth, Inside::Quoted),
+        _ => at_depth(depth, Inside::InString),
     }
 }
 

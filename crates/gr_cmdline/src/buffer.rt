@@ -1,7 +1,7 @@
 // The bytes of a stream that are not taken yet, and where the search for a line feed stands.
 ghost use Rattle.std.specs.Prelude.{◌≡◌, ◌++◌, ◌≤◌, [], IfSome, None, OnErr, OnOk, drop, false, length, take, true};
 ghost use Rattle.memchr.specs.Find.{IsFirstByte, is_byte};
-ghost use Rattle.gr_cmdline.specs.Stream.{HasNoLine, StandsFirst, first_text};
+ghost use Rattle.gr_cmdline.specs.Inside.Buffered.{HasNoLine, StandsFirst, first_text};
 
 use crate::line::without_return;
 use gr_base::NoMemory;
@@ -31,7 +31,7 @@ pub(crate) struct Buffer {
 impl Model for Buffer {
     ghost use Rattle.std.specs.Prelude.{◌≤◌, ◌≡◌, ◌-◌, All, drop, length, take, false};
     ghost use Rattle.gr_cmdline.specs.Commands.{is_line_end};
-    ghost use Rattle.gr_cmdline.specs.Stream.{Buffered};
+    ghost use Rattle.gr_cmdline.specs.Inside.Buffered.{Buffered};
 
     ghost Value = { Buffered };
 

@@ -1,4 +1,4 @@
-// Commands, and what a reader of them answers.
+// Commands, the items of a stream, and what a reader of them answers.
 use super::{Args, Verb};
 use gr_base::Fault;
 
@@ -11,13 +11,20 @@ pub struct Command {
     pub args: Args,
 }
 
-/// What a reader answers when it is asked for the next item.
+/// What a line of a stream gives, or a load with its data.
 #[derive(Drop)]
-pub enum Next {
+pub enum Item {
     /// A command.
     Command(Command),
     /// A line that is refused.
     Bad(Fault),
+}
+
+/// What a reader answers when it is asked for the next item.
+#[derive(Drop)]
+pub enum Next {
+    /// The next item.
+    Item(Item),
     /// No item stands whole in the bytes so far, and more can come.
     NeedMore,
     /// The text has ended, and no item is left.

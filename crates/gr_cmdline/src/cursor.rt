@@ -2,7 +2,7 @@
 ghost use Rattle.std.specs.Prelude.{◌≡◌, ◌<◌, ◌∷◌, ◌++◌, [], All, MatchOption, List, false, true, ℕ};
 ghost use Rattle.std.specs.Str.{chars};
 ghost use Rattle.memchr.specs.Find.{is_byte2};
-ghost use Rattle.gr_cmdline.specs.Reading.{Begins};
+ghost use Rattle.gr_cmdline.specs.Inside.Reading.{Begins};
 
 use crate::scan::len_before_two;
 use std::marker::Model;

@@ -3,22 +3,22 @@
 
 mod args;
 mod argument;
-mod asked;
-mod binding;
-mod bound;
+mod bindings;
 mod brackets;
 mod buffer;
 mod command;
 mod cursor;
 mod line;
 mod load;
+mod missing;
+mod outcome;
 mod param;
 mod parameters;
 mod path;
 mod reader;
 mod refused;
+mod request;
 mod scan;
-mod taken;
 #[cfg(test)]
 mod tests;
 mod text;
@@ -26,7 +26,7 @@ mod verb;
 mod words;
 
 pub use args::Args;
-pub use command::{Command, Next};
+pub use command::{Command, Item, Next};
 pub use param::Param;
 pub use reader::Reader;
 pub use verb::Verb;

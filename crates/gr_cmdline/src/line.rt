@@ -1,15 +1,12 @@
 // What one line asks for.
 ghost use Rattle.std.specs.Prelude.{◌≡◌, IfOk, MatchOption, false, true};
 ghost use Rattle.std.specs.Str.{is_utf8};
-ghost use Rattle.gr_cmdline.specs.Asked.{asked_of};
-ghost use Rattle.gr_cmdline.specs.Line.{command_asked, command_of_line, from_first, is_skipped, line_of, trimmed, up_to_last, without_return};
-ghost use Rattle.gr_cmdline.specs.Words.{is_blank};
+ghost use Rattle.gr_cmdline.specs.Line.{command_of_line, from_first, is_skipped, line_of, trimmed, up_to_last, without_return};
 
 use super::Command;
-use crate::asked::asked_of;
-use crate::binding::command_of;
 use crate::refused::Refused;
-use gr_base::{FaultKind, NoMemory};
+use crate::request::command_asked;
+use gr_base::{FaultKind, NoMemory, is_blank};
 use std::alloc::Global;
 
 /// What a line asks for, where it asks for something.
@@ -42,16 +39,6 @@ fn command_of_line<'a>(
     match as_text(text) {
         Some(text) => command_asked(alloc, text),
         None => Ok(Err(Refused::unnamed(FaultKind::NotText))),
-    }
-}
-
-/// The command that a text asks for.
-fn command_asked<'a>(alloc: Global, text: &'a str) -> Result<Result<Command, Refused<'a>>, NoMemory>
-    ensures { IfOk result (λ command. command ≡ command_asked (asked_of text.now)) }
-{
-    match asked_of(alloc, text)? {
-        Ok(asked) => command_of(alloc, asked),
-        Err(refusal) => Ok(Err(refusal)),
     }
 }
 
@@ -118,10 +105,4 @@ pub(crate) fn without_return(line: &[u8]) -> &[u8]
         [front @ .., last] => { if *last == b'\r' { front } else { line } }
         [] => line,
     }
-}
-
-fn is_blank(c: u8) -> bool
-    ensures { result ≡ is_blank c }
-{
-    c == b' ' || c == b'\t'
 }

@@ -2,13 +2,13 @@
 ghost use Rattle.std.specs.Prelude.{◌≡◌, ◌||◌, ◌++◌, ◌∷◌, [], IfOk, None, OnErr, OnOk, Some, false, if◌then◌else◌, length, nat_lt, string_bytes, true};
 ghost use Rattle.gr_cmdline.specs.Arguments.{is_filled, is_given};
 ghost use Rattle.gr_base.specs.Fault.{fault_named};
-ghost use Rattle.gr_cmdline.specs.Commands.{IsItem, taken_by_load};
+ghost use Rattle.gr_cmdline.specs.Commands.{IsItem, outcome_in_load};
 ghost use Rattle.gr_cmdline.specs.Line.{trimmed};
 ghost use Rattle.gr_cmdline.specs.LoadData.{with_data, with_line};
-ghost use Rattle.gr_cmdline.specs.declared.command.Next.TheVariants.{Bad, Command as Asked};
+ghost use Rattle.gr_cmdline.specs.declared.command.Item.TheVariants.{Bad, Command as Accepted};
 ghost use Rattle.gr_cmdline.specs.declared.param.Param.TheVariants.{Values};
 
-use super::{Command, Next, Param};
+use super::{Command, Item, Param};
 use crate::brackets::Brackets;
 use crate::line::trimmed;
 use gr_base::{Bytes, Fault, FaultKind, NoMemory};
@@ -29,7 +29,8 @@ pub(crate) struct Load {
 
 impl Model for Load {
     ghost use Rattle.std.specs.Prelude.{[]};
-    ghost use Rattle.gr_cmdline.specs.LoadData.{IsCounted, Waiting};
+    ghost use Rattle.gr_cmdline.specs.Inside.Brackets.{IsCounted};
+    ghost use Rattle.gr_cmdline.specs.LoadData.{Waiting};
 
     ghost Value = { Waiting };
 
@@ -58,7 +59,7 @@ impl Load {
 
     /// Takes a line among the data, and says whether they are whole with it; a line of blanks is skipped.
     pub(crate) fn take_line(&mut self, limit: u64, line: &[u8]) -> Result<bool, NoMemory>
-        ensures ok { IfOk result (λ whole. taken_by_load limit self.old line.now (trimmed line.now)
+        ensures ok { IfOk result (λ whole. outcome_in_load limit self.old line.now (trimmed line.now)
             ≡ (if whole then record { item = Some (loaded self.new true); load = None } else record { item = None; load = Some self.new })) }
         ensures filled { IfOk result (λ whole. whole ≡ true → is_filled self.new.text ≡ true) }
         ensures err { OnErr result (self.new ≡ self.old) }
@@ -94,7 +95,7 @@ impl Load {
     }
 
     /// What the load gives once its data are taken, whole or not.
-    pub(crate) fn into_item(self, whole: bool) -> Next
+    pub(crate) fn into_item(self, whole: bool) -> Item
         requires { whole ≡ true → is_filled self.text ≡ true }
         ensures exact { result ≡ loaded self whole }
         ensures item { IsItem result }
@@ -131,25 +132,25 @@ fn push_line(text: &mut Vec<u8>, line: &[u8]) -> Result<(), NoMemory>
 }
 
 /// A load with its data.
-fn asked(command: Command, text: String) -> Next
+fn asked(command: Command, text: String) -> Item
     requires none { is_given command.args.given Values ≡ false }
     requires filled { is_filled (string_bytes text) ≡ true }
-    ensures exact { result ≡ Asked (with_data command (string_bytes text)) }
+    ensures exact { result ≡ Accepted (with_data command (string_bytes text)) }
     ensures item { IsItem result }
 {
     let args = command.args.with_data(text);
     let _given = args.is_given(Param::Values);
-    Next::Command(Command {
+    Item::Command(Command {
         verb: command.verb,
         args,
     })
 }
 
 /// A fault without a name.
-fn bad(kind: FaultKind, unnamed: Bytes) -> Next
+fn bad(kind: FaultKind, unnamed: Bytes) -> Item
     requires { unnamed ≡ [] }
     ensures exact { result ≡ Bad (fault_named kind []) }
     ensures item { IsItem result }
 {
-    Next::Bad(Fault::named(kind, unnamed))
+    Item::Bad(Fault::named(kind, unnamed))
 }

@@ -1,7 +1,8 @@
 // Which parameters each command takes, by place and by name, and which it must be given.
 ghost use Rattle.std.specs.Prelude.{◌≡◌, true, find};
 ghost use Rattle.gr_cmdline.specs.Names.{has_name};
-ghost use Rattle.gr_cmdline.specs.Parameters.{all_names, are_distinct, by_name, order, param_named, param_placed, required};
+ghost use Rattle.gr_cmdline.specs.Inside.Distinct.{all_names, are_distinct};
+ghost use Rattle.gr_cmdline.specs.Parameters.{by_name, order, param_named, param_placed, required};
 
 use super::{Param, Verb};
 

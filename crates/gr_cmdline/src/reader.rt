@@ -2,12 +2,13 @@
 ghost use Rattle.std.specs.Prelude.{◌≡◌, ◌++◌, [], List, None, OnErr, OnOk, IfOk, IfSome, Bool, false, true, ℕ};
 ghost use Rattle.gr_base.specs.Limits.{IsInRange};
 ghost use Rattle.gr_cmdline.specs.Commands.{AreFirst, IsItem, commands};
-ghost use Rattle.gr_cmdline.specs.Stream.{Gives, HasNoLine, StandsFirst, buffered_in, first_taken, passed};
+ghost use Rattle.gr_cmdline.specs.Inside.Buffered.{HasNoLine, StandsFirst, buffered_in, first_outcome, behind_first_line};
+ghost use Rattle.gr_cmdline.specs.Stream.{Gives};
 
-use super::Next;
+use super::{Item, Next};
 use crate::buffer::{Buffer, Line};
 use crate::load::Load;
-use crate::taken::take_line;
+use crate::outcome::take_line;
 use gr_base::{Limits, NoMemory};
 use std::alloc::Global;
 use std::marker::Model;
@@ -69,7 +70,7 @@ impl Reader {
             };
             match self.take(alloc, line) {
                 Ok(None) => {}
-                Ok(Some(item)) => return item,
+                Ok(Some(item)) => return Next::Item(item),
                 Err(NoMemory) => return Next::NoMemory,
             }
         }
@@ -85,10 +86,10 @@ impl Reader {
     }
 
     /// Takes the first line; where no memory is found nothing is taken.
-    fn take(&mut self, alloc: Global, line: Line) -> Result<Option<Next>, NoMemory>
+    fn take(&mut self, alloc: Global, line: Line) -> Result<Option<Item>, NoMemory>
         requires { StandsFirst (buffered_in self.old) line.len line.past }
-        ensures ok { OnOk result (self.new ≡ passed self.old line.len line.past) }
-        ensures item { IfOk result (λ item. item ≡ (first_taken self.old line.len line.past).item) }
+        ensures ok { OnOk result (self.new ≡ behind_first_line self.old line.len line.past) }
+        ensures item { IfOk result (λ item. item ≡ (first_outcome self.old line.len line.past).item) }
         ensures is_item { IfOk result (λ item. IfSome item IsItem) }
         ensures err { OnErr result (self.new ≡ self.old) }
     {
@@ -106,7 +107,7 @@ impl Reader {
             return Next::NeedMore;
         }
         match self.load.take() {
-            Some(load) => load.into_item(false),
+            Some(load) => Next::Item(load.into_item(false)),
             None => Next::End,
         }
     }

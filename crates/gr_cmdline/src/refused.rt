@@ -1,7 +1,7 @@
 // Why a line is refused, before it is told as a fault.
 ghost use Rattle.std.specs.Prelude.{◌≡◌, IfOk, [], IsUtf8};
 ghost use Rattle.gr_base.specs.Fault.{fault_named};
-ghost use Rattle.gr_cmdline.specs.Asked.{bad_line};
+ghost use Rattle.gr_cmdline.specs.Request.{bad_line};
 ghost use Rattle.gr_cmdline.specs.Binding.{refused};
 
 use crate::text::Text;
@@ -16,6 +16,13 @@ pub(crate) struct Refused<'a> {
 }
 
 impl<'a> Refused<'a> {
+    /// A refusal by a kind and the name or the text that is wrong.
+    pub(crate) fn new(kind: FaultKind, name: Text<'a>) -> Refused<'a>
+        ensures { result ≡ refused kind name.entry }
+    {
+        Refused { kind, name }
+    }
+
     /// A refusal by a kind alone.
     pub(crate) fn unnamed(kind: FaultKind) -> Refused<'a>
         ensures { result ≡ refused kind [] }

@@ -1,6 +1,6 @@
 // Runs of bytes up to the first of a few.
 ghost use Rattle.memchr.specs.Find.{is_byte2, is_byte3};
-ghost use Rattle.gr_cmdline.specs.Reading.{EndsRun};
+ghost use Rattle.gr_cmdline.specs.Inside.Reading.{EndsRun};
 
 use memchr::{memchr2, memchr3};
 

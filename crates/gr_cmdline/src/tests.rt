@@ -1,7 +1,7 @@
 // The items of texts that are fed whole and in pieces.
 ghost use Rattle.std.specs.Prelude.{◌≡◌, ◌<◌};
 
-use super::{Command, Next, Param, Reader};
+use super::{Command, Item, Next, Param, Reader};
 use gr_base::{Limits, NoMemory};
 use std::alloc::Global;
 use std::test::Fail;
@@ -59,8 +59,8 @@ fn push_items(items: &mut String, alloc: Global, reader: &mut Reader) -> Result<
 {
     'items: loop {
         match reader.next_command(alloc) {
-            Next::Command(command) => push_command(items, &command)?,
-            Next::Bad(fault) => {
+            Next::Item(Item::Command(command)) => push_command(items, &command)?,
+            Next::Item(Item::Bad(fault)) => {
                 items.push_str(fault.kind.name())?;
                 items.push_str(" ")?;
                 match str::from_utf8(fault.name.as_slice()) {
@@ -98,12 +98,15 @@ fn items(alloc: Global, text: &[u8], size: usize) -> Result<String, NoMemory>
     Ok(items)
 }
 
-/// Whether a text has these items when it is fed whole, byte by byte, and three bytes at a time.
+/// Whether a text has these items when it is fed whole, and in pieces of 1, 2, 3, 7 and 64 bytes.
 fn gives(alloc: Global, case: &Case) -> Result<bool, NoMemory> {
     Ok(
         items(alloc, case.text, 65536)?.as_str() == case.want
             && items(alloc, case.text, 1)?.as_str() == case.want
-            && items(alloc, case.text, 3)?.as_str() == case.want,
+            && items(alloc, case.text, 2)?.as_str() == case.want
+            && items(alloc, case.text, 3)?.as_str() == case.want
+            && items(alloc, case.text, 7)?.as_str() == case.want
+            && items(alloc, case.text, 64)?.as_str() == case.want,
     )
 }
 

@@ -1,7 +1,8 @@
 // The words of a line: between blanks, or in quotes.
 ghost use Rattle.std.specs.Prelude.{◌≡◌, ◌≤◌, ◌<◌, ◌∷◌, [], IfOk, MatchOption, Ok, Some, false, length, option_map, true, ℕ};
-ghost use Rattle.gr_cmdline.specs.Reading.{Begins, ReadsEscaped, ReadsQuoted, ReadsText, ReadsWord};
-ghost use Rattle.gr_cmdline.specs.Words.{before, behind_quotes, escaped, in_quotes, in_word, is_blank, is_quote, rest_from, with_char, with_text, words};
+ghost use Rattle.gr_cmdline.specs.Inside.Reading.{Begins, ReadsEscaped, ReadsInQuotes, ReadsText, ReadsWord};
+ghost use Rattle.gr_base.specs.Text.{is_blank};
+ghost use Rattle.gr_cmdline.specs.Words.{rest_with, behind_quotes, escaped, in_quotes, in_word, is_quote, rest_from, with_char, with_text, words};
 
 use crate::cursor::Cursor;
 use crate::refused::Refused;
@@ -20,7 +21,7 @@ pub(crate) enum Word<'a> {
 
 /// What comes next inside quotes.
 #[derive(Drop)]
-pub(crate) enum Quoted {
+pub(crate) enum QuotedChar {
     /// A character of the text.
     Char(char),
     /// The closing quote.
@@ -80,7 +81,7 @@ impl<'a> Cursor<'a> {
 
     /// A word that is not in quotes, up to the next blank, which is taken.
     fn in_word(&mut self) -> &'a str
-        ensures text { rest_from in_word self.old ≡ option_map (before result.now) (words self.new) }
+        ensures text { rest_from in_word self.old ≡ option_map (rest_with result.now) (words self.new) }
         ensures order { 0 < length self.old → length self.new < length self.old }
     {
         let text = self.up_to(' ', '\t');
@@ -101,10 +102,10 @@ impl<'a> Cursor<'a> {
         let mut text = Text::new();
         'runs: loop {
             text = self.run_in_quotes(alloc, quote, text)?;
-            match self.next_quoted(quote) {
-                Quoted::Char(c) => text = text.with_char(alloc, c)?,
-                Quoted::Closed => return Ok(self.behind_quotes(text)),
-                Quoted::Open => return Ok(Err(Refused::bad_line())),
+            match self.next_in_quotes(quote) {
+                QuotedChar::Char(c) => text = text.with_char(alloc, c)?,
+                QuotedChar::Closed => return Ok(self.behind_quotes(text)),
+                QuotedChar::Open => return Ok(Err(Refused::bad_line())),
             }
         }
     }
@@ -126,30 +127,30 @@ impl<'a> Cursor<'a> {
 
     /// The next character in quotes.
     #[inline]
-    fn next_quoted(&mut self, quote: char) -> Quoted
-        ensures next { ReadsQuoted quote self.old self.new result }
+    fn next_in_quotes(&mut self, quote: char) -> QuotedChar
+        ensures next { ReadsInQuotes quote self.old self.new result }
         ensures order { length self.new ≤ length self.old }
     {
         let Some(c) = self.next() else {
-            return Quoted::Open;
+            return QuotedChar::Open;
         };
         if c == quote {
-            return Quoted::Closed;
+            return QuotedChar::Closed;
         }
         if c == '\\' {
             return self.next_escaped();
         }
-        Quoted::Char(c)
+        QuotedChar::Char(c)
     }
 
     /// What the next character stands for behind a backslash.
-    fn next_escaped(&mut self) -> Quoted
+    fn next_escaped(&mut self) -> QuotedChar
         ensures next { (quote : ℕ) → ReadsEscaped quote self.old self.new result }
         ensures order { length self.new ≤ length self.old }
     {
         match self.next() {
-            Some(c) => Quoted::Char(escaped(c)),
-            None => Quoted::Open,
+            Some(c) => QuotedChar::Char(escaped(c)),
+            None => QuotedChar::Open,
         }
     }
 

@@ -193,6 +193,99 @@ static ARGUMENTS: [Case; 35] = [
     },
 ];
 
+static NAMED: [Case; 21] = [
+    Case {
+        text: b"table_create --value_type d --key_type c --flags b --name a",
+        want: "table_create name=a flags=b key_type=c value_type=d\n",
+    },
+    Case {
+        text: b"table_create a --normalizer f --default_tokenizer e",
+        want: "table_create name=a default_tokenizer=e normalizer=f\n",
+    },
+    Case {
+        text: b"table_create a --token_filters g",
+        want: "table_create name=a token_filters=g\n",
+    },
+    Case {
+        text: b"column_create --flags c --type d --name b --table a",
+        want: "column_create table=a name=b flags=c type=d\n",
+    },
+    Case {
+        text: b"column_create a b c d --source e",
+        want: "column_create table=a name=b flags=c type=d source=e\n",
+    },
+    Case {
+        text: b"load --columns c --table b --values a",
+        want: "load values=a table=b columns=c\n",
+    },
+    Case {
+        text: b"load a b --input_type e --ifexists d",
+        want: "load values=a table=b ifexists=d input_type=e\n",
+    },
+    Case {
+        text: b"delete --filter d --id c --key b --table a",
+        want: "delete table=a key=b id=c filter=d\n",
+    },
+    Case {
+        text: b"select --filter d --query c --match_columns b --table a",
+        want: "select table=a match_columns=b query=c filter=d\n",
+    },
+    Case {
+        text: b"select a --limit h --offset g --sort_keys e",
+        want: "select table=a sort_keys=e offset=g limit=h\n",
+    },
+    Case {
+        text: b"select a --output_columns f --cache n",
+        want: "select table=a output_columns=f cache=n\n",
+    },
+    Case {
+        text: b"select a --drilldown_sort_keys j --drilldown i",
+        want: "select table=a drilldown=i drilldown_sort_keys=j\n",
+    },
+    Case {
+        text: b"select a --drilldown_output_columns k",
+        want: "select table=a drilldown_output_columns=k\n",
+    },
+    Case {
+        text: b"select a --drilldown_limit m --drilldown_offset l",
+        want: "select table=a drilldown_offset=l drilldown_limit=m\n",
+    },
+    Case {
+        text: b"select a --match_escalation_threshold o --sortby e",
+        want: "select table=a sort_keys=e match_escalation_threshold=o\n",
+    },
+    Case {
+        text: b"select a --drilldown_sortby j",
+        want: "select table=a drilldown_sort_keys=j\n",
+    },
+    Case {
+        text: b"table_create a --output_type q --command_version p",
+        want: "table_create name=a command_version=p output_type=q\n",
+    },
+    Case {
+        text: b"column_create a b c d --output_type q --command_version p",
+        want: "column_create table=a name=b flags=c type=d command_version=p output_type=q\n",
+    },
+    Case {
+        text: b"load a b --output_type q --command_version p",
+        want: "load values=a table=b command_version=p output_type=q\n",
+    },
+    Case {
+        text: b"delete a b --output_type q --command_version p",
+        want: "delete table=a key=b command_version=p output_type=q\n",
+    },
+    Case {
+        text: b"select a --output_type q --command_version p",
+        want: "select table=a command_version=p output_type=q\n",
+    },
+];
+
+#[test]
+fn every_parameter_is_given_by_its_name(rt: HostRuntime) -> Result<(), Fail> {
+    assert_eq!(rt; first_wrong(rt.alloc(), &NAMED)?, None);
+    Ok(())
+}
+
 #[test]
 fn arguments_are_bound_by_place_and_by_name(rt: HostRuntime) -> Result<(), Fail> {
     assert_eq!(rt; first_wrong(rt.alloc(), &ARGUMENTS)?, None);

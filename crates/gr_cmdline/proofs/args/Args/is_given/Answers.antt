@@ -1,6 +1,6 @@
 use Rattle.std.proofs.Common.{string_bytes, subst}
 use Rattle.std.proofs.lemmas.Str.{IsUtf8-string_bytes}
-use Rattle.gr_cmdline.specs.Arguments.{AreTexts, data_value, given_text}
+use Rattle.gr_cmdline.specs.Arguments.{AreTexts, data_value, unless_empty}
 use Rattle.gr_cmdline.proofs.Giving.{IsText-given, texts-append, texts-data}
 use Rattle.gr_cmdline.proofs.args.Args.is_given.Goals as goal
 
@@ -10,5 +10,5 @@ returns-clause-texts c =
     subst AreTexts c.self.view_is
     (record {
       suffix = IsText-given c.self.inside.suffix c.self.invariant.1;
-      given = texts-append c.self.inside.given.items (data_value (given_text loaded)) c.self.invariant.0 (texts-data loaded (IsUtf8-string_bytes c.self.inside.loaded));
+      given = texts-append c.self.inside.given.items (data_value (unless_empty loaded)) c.self.invariant.0 (texts-data loaded (IsUtf8-string_bytes c.self.inside.loaded));
     })

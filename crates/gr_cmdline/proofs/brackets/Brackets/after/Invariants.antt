@@ -1,5 +1,5 @@
 use Rattle.std.proofs.Common.{◌≡◌, ◌+◌, ◌≤◌, fold, length}
-use Rattle.gr_cmdline.specs.LoadData.{after_byte}
+use Rattle.gr_cmdline.specs.Inside.Brackets.{after_byte}
 use Rattle.gr_cmdline.proofs.brackets.Brackets.after.Given as goal
 
 abbrev pub invariant-marks : goal.invariant-marks

@@ -1,5 +1,5 @@
 use Rattle.std.proofs.Common.{◌≡◌, ap, ◌∙◌, arith}
-use Rattle.gr_cmdline.proofs.Steps.{HasNoLine-empty, HasNoLine-open, StandsFirst-found, StandsFirst-last}
+use Rattle.gr_cmdline.proofs.Streams.{HasNoLine-empty, HasNoLine-open, StandsFirst-found, StandsFirst-last}
 use Rattle.gr_cmdline.proofs.buffer.Buffer.first_line.Goals as goal
 use Rattle.gr_cmdline.proofs.buffer.Buffer.first_line.Goals.{in-Some, in-None, in-None-2, in-None-2-2}
 

@@ -1,6 +1,6 @@
 use Rattle.std.proofs.Common.{◌∙◌, arith, drop}
-use Rattle.gr_cmdline.specs.Asked.{names_argument}
-use Rattle.gr_cmdline.specs.Reading.{word_of}
+use Rattle.gr_cmdline.specs.Request.{names_argument}
+use Rattle.gr_cmdline.specs.Inside.Reading.{word_of}
 use Rattle.gr_cmdline.proofs.Arguing.{arguments-named, arguments-placed, named-none, named-some}
 use Rattle.gr_cmdline.proofs.cursor.Cursor.argument_of.Goals as goal
 

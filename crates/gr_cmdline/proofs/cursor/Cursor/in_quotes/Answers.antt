@@ -11,6 +11,6 @@ runs-preserved c =
     record {
       read = rw c.in_ok-text-in-Char.ensures
           (c.runs.invariant.read ∙ c.in_ok-text.ensures.text ∙ ap (option_map (with_text c.in_ok-text.text)) c.in-Char.ensures.next.0
-          ∙ with_text-text c.in_ok-text.text (encode_utf8 c.in-Char.c) (rest_from (in_quotes c.args.quote) c.next_quoted.new.self));
+          ∙ with_text-text c.in_ok-text.text (encode_utf8 c.in-Char.c) (rest_from (in_quotes c.args.quote) c.next_in_quotes.new.self));
       order = omega (arith, c.in-Char.ensures.order);
     }

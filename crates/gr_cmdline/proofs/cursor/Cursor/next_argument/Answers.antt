@@ -1,4 +1,4 @@
-use Rattle.gr_cmdline.specs.Reading.{arguments_behind, arguments_in, word_of}
+use Rattle.gr_cmdline.specs.Inside.Reading.{arguments_behind, arguments_in, word_of}
 use Rattle.gr_cmdline.proofs.Arguing.{IfOk-word, arguments_in-word}
 use Rattle.gr_cmdline.proofs.cursor.Cursor.next_argument.Goals as goal
 

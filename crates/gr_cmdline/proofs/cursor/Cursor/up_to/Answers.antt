@@ -1,7 +1,7 @@
 use Rattle.std.proofs.Common.{IsUtf8, ◌∙◌, ap, subst, sym}
 use Rattle.std.specs.Str.{chars}
 use Rattle.memchr.specs.Find.{is_byte2}
-use Rattle.gr_cmdline.specs.Reading.{EndsRun}
+use Rattle.gr_cmdline.specs.Inside.Reading.{EndsRun}
 use Rattle.gr_cmdline.proofs.Runs.{ascii-two, run-clear, run-split, run-stop}
 use Rattle.gr_cmdline.proofs.cursor.Cursor.up_to.Goals as goal
 

@@ -1,7 +1,7 @@
 use Rattle.std.proofs.Common.{◌≡◌, ◌∙◌, IsUtf8, ap, false, string_bytes, subst, sym, true}
 use Rattle.std.proofs.lemmas.Str.{IsUtf8-string_bytes}
 use Rattle.gr_cmdline.specs.LoadData.{Waiting, loaded, with_data}
-use Rattle.gr_cmdline.specs.declared.command.Next.TheVariants.{Command as Asked}
+use Rattle.gr_cmdline.specs.declared.command.Item.TheVariants.{Command as Accepted}
 use Rattle.gr_cmdline.proofs.Loading.{loaded-no_text, loaded-text}
 use Rattle.gr_cmdline.proofs.load.Load.into_item.Goals as goal
 
@@ -11,8 +11,8 @@ returns-then-whole-clause-exact c =
     let bytes : string_bytes c.in-Ok.text ≡ c.args.self.text = taken ∙ ap (λ (waiting : Waiting). waiting.text) c.self.view_is in
     let short : c.args.self.too_long ≡ false = ap (λ (waiting : Waiting). waiting.too_long) (sym c.self.view_is) ∙ c.if-self.false in
     c.asked.ensures.exact
-    ∙ ap (λ text. Asked (with_data c.self.inside.command text)) taken
-    ∙ ap (λ (waiting : Waiting). Asked (with_data waiting.command waiting.text)) c.self.view_is
+    ∙ ap (λ text. Accepted (with_data c.self.inside.command text)) taken
+    ∙ ap (λ (waiting : Waiting). Accepted (with_data waiting.command waiting.text)) c.self.view_is
     ∙ sym (loaded-text c.args.self true short (subst IsUtf8 bytes (IsUtf8-string_bytes c.in-Ok.text)))
     ∙ ap (loaded c.args.self) (sym c.if-whole.true)
 

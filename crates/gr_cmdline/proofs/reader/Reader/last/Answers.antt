@@ -1,5 +1,5 @@
 use Rattle.std.proofs.Common.{rules}
-use Rattle.gr_cmdline.proofs.Steps.{Gives-more}
+use Rattle.gr_cmdline.proofs.Streams.{Gives-more}
 use Rattle.gr_cmdline.proofs.reader.Reader.last.Goals as goal
 
 pub returns-then-not-has_ended : goal.returns-then-not-has_ended

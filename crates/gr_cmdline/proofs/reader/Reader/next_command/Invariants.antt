@@ -1,5 +1,5 @@
 use Rattle.gr_cmdline.specs.Stream.{size}
-use Rattle.gr_cmdline.proofs.Steps.{Along}
+use Rattle.gr_cmdline.proofs.Streams.{Along}
 use Rattle.gr_cmdline.proofs.reader.Reader.next_command.Given as goal
 
 abbrev pub invariant-lines : goal.invariant-lines
