@@ -1,5 +1,5 @@
 -- What a read of a source in memory does to its bytes and to the pairs that it can reach.
-use Rattle.std.proofs.Common.{◌≡◌, ℕ, ◌+◌, ◌<◌, ◌≤◌, suc, min, true, false, List, [], ◌++◌, length, take, drop, refl, arith, length-drop, take-append-drop}
+use Rattle.std.proofs.Common.{◌≡◌, ℕ, ◌+◌, ◌<◌, ◌≤◌, suc, min, true, false, List, [], ◌++◌, length, take, drop, refl, add-suc, suc-add, arith, length-drop, take-append-drop}
 use Rattle.std.proofs.Math.Seq.{drop-drop}
 use Rattle.std.proofs.lemmas.List.{drop_all}
 use Rattle.gr_outside.specs.Memory.{CanReach, Reading, is_failing, next_call}
@@ -24,9 +24,11 @@ pub reach_after_failure : (source : Reading) (bytes count : ℕ)
     → CanReach (record source { call = next_call source.call; faults = source.faults + 1 }) bytes count
     → CanReach source bytes count
 reach_after_failure source bytes count fails after = record {
-  calls = suc after.calls;
-  counted = rw fails (omega (arith, after.counted));
-  given = omega (arith, after.given);
+  failed = suc after.failed;
+  gave = after.gave;
+  failing = rw (add-suc after.gave after.failed, fails) (omega (arith, after.failing));
+  counted = omega (arith, after.counted);
+  given = after.given;
   within = after.within;
 }
 
@@ -38,8 +40,10 @@ pub reach_after_given : (source : Reading) (given bytes count : ℕ)
     → CanReach (record source { left = drop given source.left; call = next_call source.call }) bytes count
     → CanReach source (given + bytes) count
 reach_after_given source given bytes count goes small enough after = record {
-  calls = suc after.calls;
-  counted = rw goes (omega (arith, after.counted));
+  failed = after.failed;
+  gave = suc after.gave;
+  failing = rw (suc-add after.gave after.failed, goes) (omega (arith, after.failing));
+  counted = after.counted;
   given = omega (arith, after.given);
   within = omega (arith, after.within, length-drop given source.left);
 }

@@ -45,17 +45,21 @@ impl MemoryFiles {
 impl Files for MemoryFiles {
     type File = MemorySource;
 
-    ghost use Rattle.gr_outside.specs.NamedFiles.{CanFailNamed, ReachesNamed, bytes_named};
+    ghost use Rattle.std.specs.Prelude.{◌-◌, ◌^◌, ◌<◌, IfOk};
+    ghost use Rattle.gr_outside.specs.Memory.{told_by as source_told};
+    ghost use Rattle.gr_outside.specs.NamedFiles.{Opens, after_open, found_by, told_by};
+    ghost use Rattle.gr_outside.specs.Outside.{AreSameFiles, CountsOpen, IsAsTold, as_opened};
 
-    ghost bytes_of = { bytes_named };
+    ghost told = { told_by };
 
-    ghost pairs_of = { ReachesNamed };
-
-    ghost can_fail = { CanFailNamed };
-
-    ghost faults = { λ filing. filing.faults };
-
-    fn open(&mut self, alloc: Global, name: &str) -> Result<MemorySource, OpenFault> {
+    fn open(&mut self, alloc: Global, name: &str) -> Result<MemorySource, OpenFault>
+        requires { self.old.faults < 2 ^ 64 - 1 }
+        ensures same { AreSameFiles (told_by self.old) (told_by self.new) }
+        ensures faults { CountsOpen (told_by self.old) (told_by self.new) name.now result }
+        ensures opened { IfOk result (λ file. IsAsTold (as_opened ((told_by self.old).named name.now)) (source_told file)) }
+        ensures exactly { Opens (found_by self.old name.now) result }
+        ensures after { self.new ≡ after_open self.old (found_by self.old name.now) }
+    {
         let fails = is_failing(self.failing.as_slice(), self.call);
         self.call = self.call.saturating_add(1);
         match named(self.files.as_slice(), name.as_bytes()) {

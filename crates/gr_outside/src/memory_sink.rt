@@ -53,14 +53,22 @@ impl MemorySink {
 }
 
 impl Sink for MemorySink {
-    ghost use Rattle.std.specs.Prelude.{Some};
+    ghost use Rattle.std.specs.Prelude.{◌-◌, ◌^◌, Some, length};
+    ghost use Rattle.std.specs.Io.KnownBytes.{WriteAppends};
+    ghost use Rattle.gr_outside.specs.Memory.{Writes, taken_by};
+    ghost use Rattle.gr_outside.specs.Outside.{CountsFailure, TakesSome};
 
-    ghost taken = { λ sink. Some sink.taken };
-
-    ghost faults = { λ sink. sink.faults };
+    ghost taken = { taken_by };
 
     // Want of memory counts as a fault of the device.
-    fn write(&mut self, piece: &[u8]) -> Result<usize, Failed> {
+    fn write(&mut self, piece: &[u8]) -> Result<usize, Failed>
+        requires piece { 0 < length piece.now }
+        requires countable { self.old.faults < 2 ^ 64 - 1 }
+        ensures some { TakesSome piece.now result }
+        ensures bytes { WriteAppends (Some self.old.taken) (Some self.new.taken) result piece.now }
+        ensures faults { CountsFailure self.old.faults self.new.faults result }
+        ensures exactly { Writes self.old self.new piece.now result }
+    {
         let fails = is_failing(self.failing.as_slice(), self.call);
         self.call = self.call.saturating_add(1);
         let taken = piece.len().min(self.largest);

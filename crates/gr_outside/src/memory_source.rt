@@ -49,16 +49,24 @@ impl MemorySource {
 }
 
 impl Source for MemorySource {
-    ghost use Rattle.std.specs.Prelude.{Some};
-    ghost use Rattle.gr_outside.specs.Memory.{CanReach, reaches_at_once};
+    ghost use Rattle.std.specs.Prelude.{◌-◌, ◌^◌, Some};
+    ghost use Rattle.std.specs.Io.{ReadsAtMost};
+    ghost use Rattle.std.specs.Io.KnownBytes.{ReadConsumes};
+    ghost use Rattle.gr_outside.specs.Memory.{after_read, read_answer, reaches_at_once, told_by};
+    ghost use Rattle.gr_outside.specs.Outside.{CountsFailure, StaysWithin};
 
-    ghost left = { λ source. Some source.left };
+    ghost told = { told_by };
 
-    ghost faults = { λ source. source.faults };
-
-    ghost reaches = { CanReach };
-
-    fn read(&mut self, room: &mut [u8]) -> Result<usize, Failed> {
+    fn read(&mut self, room: &mut [u8]) -> Result<usize, Failed>
+        requires room { 0 < length room.old }
+        requires countable { self.old.faults < 2 ^ 64 - 1 }
+        ensures bound { ReadsAtMost result room.new }
+        ensures bytes { ReadConsumes (Some self.old.left) (Some self.new.left) result room.new }
+        ensures faults { CountsFailure self.old.faults self.new.faults result }
+        ensures pairs { StaysWithin (told_by self.old) (told_by self.new) result }
+        ensures answer { result ≡ read_answer self.old (length room.old) }
+        ensures after { self.new ≡ after_read self.old (length room.old) }
+    {
         let fails = is_failing(self.failing.as_slice(), self.call);
         self.call = self.call.saturating_add(1);
         if fails {

@@ -21,11 +21,11 @@ pub struct NamedFile {
 
 impl NamedFile {
     ghost use Rattle.std.specs.Prelude.{◌≡◌, IfOk};
-    ghost use Rattle.gr_outside.specs.Memory.{reading_from};
+    ghost use Rattle.gr_outside.specs.NamedFiles.{source_of};
 
     // A source of this file, from its first byte.
     pub(crate) fn source(&self, alloc: Global) -> Result<MemorySource, NoMemory>
-        ensures { IfOk result (λ source. source ≡ reading_from self.now.bytes self.now.failing self.now.largest) }
+        ensures { IfOk result (λ source. source ≡ source_of self.now) }
     {
         let failing = Vec::from_slice(alloc, self.failing.as_slice())?;
         MemorySource::new(

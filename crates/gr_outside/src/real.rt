@@ -1,4 +1,4 @@
-// The trusted edge: real files and standard output. No bytes are told, and any call can fail.
+// The trusted edge: real files and standard output. Any call can fail. Of a file no bytes are told, and of a sink those that its writer holds, where that tells them.
 ghost use Rattle.std.specs.Prelude.{◌≡◌};
 
 use super::{Failed, Files, OpenFault, Sink, Source};
@@ -21,9 +21,9 @@ pub struct RealSource<S> {
     faults: u64,
 }
 
-/// Where replies are written. Contracts see the count of faults alone.
+/// Where replies are written. Contracts see what the writer holds, where it tells it, and the count of faults.
 #[derive(Drop)]
-pub struct RealSink<W> {
+pub struct RealSink<W: Write> {
     writer: W,
     faults: u64,
 }
@@ -44,12 +44,12 @@ impl<S> Model for RealSource<S> {
     ghost view = { λ source. source.faults };
 }
 
-impl<W> Model for RealSink<W> {
-    ghost use Rattle.std.specs.Prelude.{ℕ};
+impl<W: Write> Model for RealSink<W> {
+    ghost use Rattle.gr_outside.specs.Outside.{Taken};
 
-    ghost Value = { ℕ };
+    ghost Value = { Taken };
 
-    ghost view = { λ sink. sink.faults };
+    ghost view = { λ sink. record { bytes = W.contents sink.writer; faults = sink.faults } };
 }
 
 impl<R: rt::Files + Drop> RealFiles<R> {
@@ -73,7 +73,7 @@ impl<S: Read + Drop> RealSource<S> {
 impl<W: Write + Drop> RealSink<W> {
     /// What is written goes to this writer.
     pub fn new(writer: W) -> RealSink<W>
-        ensures { result ≡ 0 }
+        ensures { result ≡ record { bytes = W.contents writer; faults = 0 } }
     {
         RealSink { writer, faults: 0 }
     }
@@ -87,13 +87,10 @@ where
 
     ghost use Rattle.std.specs.Prelude.{None};
 
-    ghost bytes_of = { λ _ _. None };
-
-    ghost pairs_of = { λ _ _ _ _. Unit {0} };
-
-    ghost can_fail = { λ _ _. Unit {0} };
-
-    ghost faults = { λ files. files };
+    ghost told = { λ files. record {
+      named = λ _. record { bytes = None; reaches = λ _ _. Unit {0}; can_fail = Unit {0} };
+      faults = files;
+    } };
 
     fn open(&mut self, _alloc: Global, name: &str) -> Result<RealSource<R::File>, OpenFault> {
         match fs::open(&self.runtime, name) {
@@ -109,11 +106,7 @@ where
 impl<S: Read + Drop> Source for RealSource<S> {
     ghost use Rattle.std.specs.Prelude.{None};
 
-    ghost left = { λ _. None };
-
-    ghost faults = { λ source. source };
-
-    ghost reaches = { λ _ _ _. Unit {0} };
+    ghost told = { λ source. record { left = None; faults = source; reaches = λ _ _. Unit {0} } };
 
     fn read(&mut self, room: &mut [u8]) -> Result<usize, Failed> {
         for _ in 0..u64::MAX {
@@ -133,11 +126,7 @@ impl<S: Read + Drop> Source for RealSource<S> {
 }
 
 impl<W: Write + Drop> Sink for RealSink<W> {
-    ghost use Rattle.std.specs.Prelude.{None};
-
-    ghost taken = { λ _. None };
-
-    ghost faults = { λ sink. sink };
+    ghost taken = { λ sink. sink };
 
     fn write(&mut self, piece: &[u8]) -> Result<usize, Failed> {
         for _ in 0..u64::MAX {

@@ -10,11 +10,12 @@ use Rattle.std.specs.List.{list_all}
 use Rattle.std.specs.Option.{ok_or}
 use Rattle.std.specs.Result.{OkIff}
 use Rattle.std.specs.Str.Parse.{ParsesSigned, digits_value}
+use Rattle.gr_base.specs.Failure.{result_then}
 use Rattle.gr_base.specs.declared.fault.FaultKind.TheVariants.{BadValue, OutOfRange}
 use Rattle.gr_values.specs.declared.data_type.Range.{Range}
 use Rattle.gr_values.specs.Fits.{IsNarrow}
 use Rattle.gr_values.specs.Keys.{digits_text, whole_text}
-use Rattle.gr_values.specs.Values.{in_range, result_then}
+use Rattle.gr_values.specs.Values.{in_range}
 
 own : IsNumeralModel (λ ds. list_all is_ascii_digit ds ≡ true) (digits_value 10)
 own = numerals_by_value _ (search rules)

@@ -4,8 +4,9 @@ use Rattle.std.proofs.Common.{append_assoc}
 use Rattle.serde_json.specs.Data.{Data, Items}
 use Rattle.serde_json.specs.View.{items_view, view}
 use Rattle.serde_json.specs.declared.value.Value.{Value}
+use Rattle.gr_base.specs.Failure.{result_map, result_then}
 use Rattle.gr_base.specs.declared.fault.FaultKind.{FaultKind}
-use Rattle.gr_values.specs.Values.{items_of, result_map, result_then}
+use Rattle.gr_values.specs.Values.{items_of}
 
 -- these elements were read, and all that is to be read is they and those of the values that are left
 pub record AreRead {T : Type 0} (read : Data → Result T FaultKind) (all : Items) (taken : List T) (left : List Value) : Type 0 where

@@ -1,13 +1,14 @@
 -- Which values stand in a cell of a shape, and which keys are keys of a type.
 use Rattle.std.specs.Prelude.{◌≡◌, ◌≤◌, ℕ, ◌^◌, ℤ, pos, neg_ℤ, ◌≤ℤ◌, ◌<ℤ◌, true, false, List, length, Some, None, MatchOption, IsUtf8}
 use Rattle.std.specs.List.{AllByRecursion}
+use Rattle.gr_base.specs.declared.limits.TheConstants.{LONGEST_KEY, LONGEST_VECTOR}
 use Rattle.gr_values.specs.declared.data_type.DataType.{DataType}
 use Rattle.gr_values.specs.declared.data_type.Range.{Range}
 use Rattle.gr_values.specs.declared.data_type.DataType.TheVariants.{ShortText}
 use Rattle.gr_values.specs.declared.data_type.Shape.{Shape}
 use Rattle.gr_values.specs.declared.value.Key.{Key}
 use Rattle.gr_values.specs.declared.value.Given.{Given}
-use Rattle.gr_values.specs.Types.{is_bool, longest_list, range_of, text_limit}
+use Rattle.gr_values.specs.Types.{is_bool, range_of, text_limit}
 
 -- a number of the range
 pub record IsIn (range : Range) (z : ℤ) : Type 0 where
@@ -42,7 +43,7 @@ pub record IsTextKey (of : DataType) (s : List ℕ) : Type 0 where
   pub short : of ≡ ShortText
   pub utf8 : IsUtf8 s
   pub given : 1 ≤ length s
-  pub within : length s ≤ 4096
+  pub within : length s ≤ LONGEST_KEY
 
 -- a key of the type
 abbrev pub IsKeyOf : DataType → Key → Type 0
@@ -51,7 +52,7 @@ IsKeyOf of (Key.Text s) = IsTextKey of s
 
 -- a list of such elements, of which there are not too many
 pub record IsListOf {T : Type 0} (P : T → Type 0) (xs : List T) : Type 0 where
-  pub few : length xs ≤ longest_list
+  pub few : length xs ≤ LONGEST_VECTOR
   pub each : AllByRecursion P xs
 
 -- one value that is no reference

@@ -2,6 +2,7 @@
 use Rattle.std.specs.Prelude.{◌≡◌, ℕ, Bool, true, false, if◌then◌else◌, is_some, List, ◌++◌, map, codes, Option, Some, None, MatchOption, IsUtf8, ⊤}
 use Rattle.std.specs.Fmt.{signed_decimal}
 use Rattle.std.specs.List.{AllByRecursion, join_with_byte}
+use Rattle.std.specs.Str.{byte}
 use Rattle.json.specs.Print.{quoted}
 use Rattle.gr_values.specs.declared.data_type.DataType.{DataType}
 use Rattle.gr_values.specs.declared.value.Key.{Key}
@@ -25,7 +26,7 @@ truth_text false = codes "false"
 
 -- texts as the elements of an array
 abbrev pub bracketed : List (List ℕ) → List ℕ
-bracketed texts = codes "[" ++ (join_with_byte 44 texts ++ codes "]")
+bracketed texts = codes "[" ++ (join_with_byte (byte ",") texts ++ codes "]")
 
 -- the JSON text of a value; an empty reference is to keys of this type
 abbrev pub given_text : Option DataType → Given → List ℕ

@@ -1,5 +1,6 @@
 -- What each type takes: ranges of whole numbers, limits of texts, and which types are keys.
 use Rattle.std.specs.Prelude.{◌≡◌, ℕ, pos, neg_ℤ, Bool, true, false, Option, Some, None}
+use Rattle.gr_base.specs.declared.limits.TheConstants.{LONGEST_LONG_TEXT, LONGEST_MIDDLE_TEXT, LONGEST_SHORT_TEXT}
 use Rattle.gr_values.specs.declared.data_type.DataType.{DataType}
 use Rattle.gr_values.specs.declared.data_type.DataType.TheVariants.{Bool as Truth, Int8, Int16, Int32, Int64, UInt8, UInt16, UInt32, UInt64, ShortText, Text, LongText}
 use Rattle.gr_values.specs.declared.data_type.Range.{Range}
@@ -31,9 +32,9 @@ text_limit UInt8 = None
 text_limit UInt16 = None
 text_limit UInt32 = None
 text_limit UInt64 = None
-text_limit ShortText = Some 4096
-text_limit Text = Some 65536
-text_limit LongText = Some 16777216
+text_limit ShortText = Some LONGEST_SHORT_TEXT
+text_limit Text = Some LONGEST_MIDDLE_TEXT
+text_limit LongText = Some LONGEST_LONG_TEXT
 
 -- whether this is the type of `true` and `false`
 abbrev pub is_bool : DataType → Bool
@@ -64,10 +65,6 @@ is_key_type UInt64 = true
 is_key_type ShortText = true
 is_key_type Text = false
 is_key_type LongText = false
-
--- how many elements a list has at most
-abbrev pub longest_list : ℕ
-longest_list = 65536
 
 -- references are by keys, and no list holds `true` and `false`
 pub record IsShape (shape : Shape) : Type 0 where

@@ -2,31 +2,16 @@
 use Rattle.std.specs.Prelude.{◌≡◌, ℕ, ◌&&◌, not, nat_lt, ℤ, pos, int_le, Bool, true, false, if◌then◌else◌, List, [], ◌∷◌, length, filter, Option, Some, None, Result, Ok, Err}
 use Rattle.serde_json.specs.Data.{Num, unsigned, negative, float, Data, null, boolean, number, string, array, object, Items, no_items, item}
 use Rattle.serde_json.specs.Events.{items_len}
+use Rattle.gr_base.specs.Failure.{result_map, result_then}
 use Rattle.gr_base.specs.declared.fault.FaultKind.{FaultKind}
 use Rattle.gr_base.specs.declared.fault.FaultKind.TheVariants.{BadValue, EmptyKey, FloatRefused, OutOfRange, TooLong}
+use Rattle.gr_base.specs.declared.limits.TheConstants.{LONGEST_VECTOR}
 use Rattle.gr_values.specs.declared.data_type.DataType.{DataType}
 use Rattle.gr_values.specs.declared.data_type.Range.{Range}
 use Rattle.gr_values.specs.declared.data_type.Shape.{Shape}
-use Rattle.gr_values.specs.declared.fault.ReadFault.{ReadFault}
-use Rattle.gr_values.specs.declared.fault.ReadFault.TheVariants.{Refused}
 use Rattle.gr_values.specs.declared.value.Key.{Key}
 use Rattle.gr_values.specs.declared.value.Given.{Given}
-use Rattle.gr_values.specs.Types.{is_bool, longest_list, range_of, text_limit}
-
--- the answer with this made of what was found
-abbrev pub result_map : {T U E : Type 0} → (T → U) → Result T E → Result U E
-result_map f (Ok x) = Ok (f x)
-result_map f (Err e) = Err e
-
--- what this answers of what was found
-abbrev pub result_then : {T U E : Type 0} → (T → Result U E) → Result T E → Result U E
-result_then f (Ok x) = f x
-result_then f (Err e) = Err e
-
--- what a call that may want memory answers is what is meant; for want of memory nothing is said
-pub record Answers {T : Type 0} (result : Result T ReadFault) (meant : Result T FaultKind) : Type 0 where
-  pub found : (value : T) → result ≡ Ok value → meant ≡ Ok value
-  pub refused : (kind : FaultKind) → result ≡ Err (Refused kind) → meant ≡ Err kind
+use Rattle.gr_values.specs.Types.{is_bool, range_of, text_limit}
 
 -- what a number is refused for where no number is taken
 abbrev pub fault_of_number : Num → FaultKind
@@ -142,7 +127,7 @@ list_of shape null = Err BadValue
 list_of shape (boolean b) = Err BadValue
 list_of shape (number n) = Err (fault_of_number n)
 list_of shape (string s) = Err BadValue
-list_of shape (array ds) = if nat_lt longest_list (items_len ds) then Err TooLong else elements_of shape ds
+list_of shape (array ds) = if nat_lt LONGEST_VECTOR (items_len ds) then Err TooLong else elements_of shape ds
 list_of shape (object ms) = Err BadValue
 
 -- a list or one value

@@ -1,7 +1,7 @@
 // Types of values, and what each takes.
 ghost use Rattle.std.specs.Prelude.{◌≡◌};
 
-use gr_base::{FaultKind, TableNo};
+use gr_base::{FaultKind, LONGEST_LONG_TEXT, LONGEST_MIDDLE_TEXT, LONGEST_SHORT_TEXT, TableNo};
 
 /// A type of plain values.
 #[derive(Clone, Copy, Debug, PartialEq, Eq)]
@@ -24,11 +24,11 @@ pub enum DataType {
     UInt32,
     /// Whole numbers of 64 bits from 0.
     UInt64,
-    /// Texts of at most 4,096 bytes.
+    /// Texts of at most `LONGEST_SHORT_TEXT` bytes.
     ShortText,
-    /// Texts of at most 65,536 bytes.
+    /// Texts of at most `LONGEST_MIDDLE_TEXT` bytes.
     Text,
-    /// Texts of at most 16,777,216 bytes.
+    /// Texts of at most `LONGEST_LONG_TEXT` bytes.
     LongText,
 }
 
@@ -63,9 +63,9 @@ impl DataType {
         ensures { result ≡ text_limit self }
     {
         match self {
-            DataType::ShortText => Some(4096),
-            DataType::Text => Some(65_536),
-            DataType::LongText => Some(16_777_216),
+            DataType::ShortText => Some(LONGEST_SHORT_TEXT),
+            DataType::Text => Some(LONGEST_MIDDLE_TEXT),
+            DataType::LongText => Some(LONGEST_LONG_TEXT),
             _ => None,
         }
     }

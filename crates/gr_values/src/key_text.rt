@@ -3,19 +3,17 @@ ghost use Rattle.std.specs.Prelude.{◌≡◌, ◌==◌, ◌&&◌, true, length,
 ghost use Rattle.std.specs.Option.{ok_or};
 ghost use Rattle.std.specs.Char.{is_ascii_digit};
 ghost use Rattle.std.specs.List.{list_all};
+ghost use Rattle.gr_base.specs.Failure.{Answers, result_then};
 ghost use Rattle.gr_base.specs.declared.fault.FaultKind.TheVariants.{BadValue};
 ghost use Rattle.gr_values.specs.Fits.{IsIn, IsKeyOf, IsNarrow};
 ghost use Rattle.gr_values.specs.Keys.{short_key, text_key, whole_text};
 ghost use Rattle.gr_values.specs.Types.{is_key_type};
-ghost use Rattle.gr_values.specs.Values.{Answers, in_range, result_then};
+ghost use Rattle.gr_values.specs.Values.{in_range};
 
 use crate::read::not_empty;
 use crate::{DataType, Key, Range, ReadFault};
-use gr_base::{Bytes, FaultKind};
+use gr_base::{Bytes, FaultKind, LONGEST_KEY};
 use std::alloc::Global;
-
-/// How many bytes a text key has at most.
-const KEY_LEN: usize = 4096;
 
 /// The key that a text writes: a whole number in decimal, or the text itself.
 pub fn key_of_text(alloc: Global, text: &str, of: DataType) -> Result<Key, ReadFault>
@@ -34,7 +32,7 @@ fn short_key(alloc: Global, text: &str, of: DataType) -> Result<Key, ReadFault>
     ensures exact { Answers result (short_key text.now) }
     ensures fits { IfOk result (IsKeyOf of) }
 {
-    if text.len() > KEY_LEN {
+    if text.len() > LONGEST_KEY {
         return Err(ReadFault::Refused(FaultKind::TooLong));
     }
     not_empty(Key::Text(Bytes::from_string(alloc, String::from_str(alloc, text)?)?))

@@ -1,6 +1,9 @@
 // Paths from a record to a field, through references.
+ghost use Rattle.std.specs.Prelude.{◌≡◌, IfOk};
+
 use super::Shape;
-use gr_base::{ColumnNo, ListOf, TableNo};
+use gr_base::{ColumnNo, ListOf, NoMemory, TableNo};
+use std::alloc::Global;
 
 /// A field of a record.
 #[derive(Clone, Copy, Debug, PartialEq, Eq)]
@@ -38,4 +41,20 @@ pub struct Path {
     pub shape: Shape,
     /// The table that the last field refers to, where it is a reference.
     pub to: Option<TableNo>,
+}
+
+impl Path {
+    /// The same path once more.
+    pub fn try_clone(&self, alloc: Global) -> Result<Path, NoMemory>
+        ensures { IfOk result (λ copy. copy ≡ self.now) }
+    {
+        let through = Vec::from_slice(alloc, self.through.as_slice())?;
+        Ok(Path {
+            table: self.table,
+            through: ListOf::from_vec(through),
+            last: self.last,
+            shape: self.shape,
+            to: self.to,
+        })
+    }
 }

@@ -1,9 +1,10 @@
 // Cells and keys as load data give them.
 ghost use Rattle.std.specs.Prelude.{◌≡◌, false, true, IfOk, IfSome, IsUtf8, string_bytes};
 ghost use Rattle.serde_json.specs.View.{number_view, view};
+ghost use Rattle.gr_base.specs.Failure.{Answers, result_map};
 ghost use Rattle.gr_values.specs.Fits.{Fits, IsIn, IsItemOf, IsKeyOf, IsPlain, IsReference, IsTextWithin};
 ghost use Rattle.gr_values.specs.Types.{IsShape, is_bool, is_key_type};
-ghost use Rattle.gr_values.specs.Values.{Answers, cell_of, fault_of_number, given_of, is_empty_text, item_of, key_of, not_empty, number_of, referred, result_map, scalar_of, text_of, truth_of, unlike, value_of, whole_of};
+ghost use Rattle.gr_values.specs.Values.{cell_of, fault_of_number, given_of, is_empty_text, item_of, key_of, not_empty, number_of, referred, scalar_of, text_of, truth_of, unlike, value_of, whole_of};
 
 use crate::read_list::read_list;
 use crate::{DataType, Given, Key, Range, ReadFault, Shape};

@@ -2,18 +2,16 @@
 ghost use Rattle.std.specs.Prelude.{◌≡◌, ◌≤◌, ◌++◌, ◌∷◌, [], true, length, IfOk, OnOk};
 ghost use Rattle.std.specs.List.{AllByRecursion};
 ghost use Rattle.serde_json.specs.View.{items_view, view};
+ghost use Rattle.gr_base.specs.Failure.{Answers, result_map};
 ghost use Rattle.gr_values.specs.Fits.{Fits, IsIn, IsKeyOf, IsPlainList, IsTextWithin};
 ghost use Rattle.gr_values.specs.Types.{IsShape, is_key_type, range_of, text_limit};
-ghost use Rattle.gr_values.specs.Values.{Answers, elements_of, item_of, items_of, list_of, number_of, plain_list_by, references, result_map, text_of};
+ghost use Rattle.gr_values.specs.Values.{elements_of, item_of, items_of, list_of, number_of, plain_list_by, references, text_of};
 
 use crate::read::{number_of, read_item, read_text, unlike};
 use crate::{DataType, Given, Key, Keys, Range, ReadFault, Shape};
-use gr_base::{FaultKind, Ints, ListOf, NoMemory, Texts};
+use gr_base::{FaultKind, Ints, LONGEST_VECTOR, ListOf, NoMemory, Texts};
 use serde_json::Value;
 use std::alloc::Global;
-
-/// How many elements a list has at most.
-const LONGEST_LIST: usize = 65_536;
 
 /// A list of the shape. Its length is looked at before its elements.
 pub(crate) fn read_list(alloc: Global, json: Value, shape: Shape) -> Result<Given, ReadFault>
@@ -24,7 +22,7 @@ pub(crate) fn read_list(alloc: Global, json: Value, shape: Shape) -> Result<Give
 {
     match json {
         Value::Array(values) => {
-            if values.len() > LONGEST_LIST {
+            if values.len() > LONGEST_VECTOR {
                 Err(ReadFault::Refused(FaultKind::TooLong))
             } else {
                 read_elements(alloc, values, shape)
@@ -37,7 +35,7 @@ pub(crate) fn read_list(alloc: Global, json: Value, shape: Shape) -> Result<Give
 fn read_elements(alloc: Global, values: Vec<Value>, shape: Shape) -> Result<Given, ReadFault>
     requires shape { IsShape shape }
     requires list { shape.list ≡ true }
-    requires few { length values.items ≤ LONGEST_LIST }
+    requires few { length values.items ≤ LONGEST_VECTOR }
     ensures exact { Answers result (elements_of shape (items_view values.items)) }
     ensures fits { IfOk result (Fits shape) }
 {
@@ -50,7 +48,7 @@ fn read_elements(alloc: Global, values: Vec<Value>, shape: Shape) -> Result<Give
 
 fn read_plain_list(alloc: Global, values: Vec<Value>, shape: Shape) -> Result<Given, ReadFault>
     requires list { IsPlainList shape }
-    requires few { length values.items ≤ LONGEST_LIST }
+    requires few { length values.items ≤ LONGEST_VECTOR }
     ensures exact { Answers result (plain_list_by (range_of shape.of) (text_limit shape.of) (items_view values.items)) }
     ensures fits { IfOk result (Fits shape) }
 {

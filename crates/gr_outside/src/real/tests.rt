@@ -67,6 +67,32 @@ fn a_real_sink_hands_its_pieces_on(rt: HostRuntime) -> Result<(), Fail> {
     Ok(())
 }
 
+// Takes one byte of each piece.
+#[derive(Drop)]
+struct Narrow {
+    held: VecDeque<u8>,
+}
+
+impl Write for Narrow {
+    fn write(&mut self, buf: &[u8]) -> io::Result<usize> {
+        self.held.write(&buf[..buf.len().min(1)])
+    }
+
+    fn flush(&mut self) -> io::Result<()> {
+        Ok(())
+    }
+}
+
+#[test]
+fn a_real_sink_claims_no_more_than_its_writer_took(rt: HostRuntime) {
+    let mut sink = RealSink::new(Narrow {
+        held: VecDeque::new(rt.alloc()),
+    });
+    assert_eq!(rt; sink.write(b"abc"), Ok(1));
+    assert_eq!(rt; sink.write(b"bc"), Ok(1));
+    assert!(rt; sink.writer.held.iter().eq(b"ab"));
+}
+
 #[test]
 fn interrupted_calls_are_tried_again_and_other_errors_counted(rt: HostRuntime) {
     let mut source = RealSource::new(Device { calls: 0 });

@@ -2,8 +2,9 @@ use Rattle.std.proofs.Common.{FitsSigned, sym, ap, subst, ◌∙◌}
 use Rattle.std.proofs.lemmas.Int.{to_z-of_z}
 use Rattle.std.specs.Int.{w128}
 use Rattle.std.specs.Option.{ok_or}
+use Rattle.gr_base.specs.Failure.{result_then}
 use Rattle.gr_base.specs.declared.fault.FaultKind.TheVariants.{BadValue}
-use Rattle.gr_values.specs.Values.{in_range, result_then}
+use Rattle.gr_values.specs.Values.{in_range}
 use Rattle.gr_values.proofs.Digits.{found, refused}
 use Rattle.gr_values.proofs.key_text.whole_in_range.Goals as goal
 
