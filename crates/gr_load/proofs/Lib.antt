@@ -1,3 +1,3 @@
-pub mod LastComma
-pub mod Members
-pub mod Taken
+pub mod CommaLemmas
+pub mod KeysLemmas
+pub mod MembersLemmas

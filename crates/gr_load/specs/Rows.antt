@@ -7,8 +7,9 @@ use Rattle.serde_json.specs.Read.{read}
 use Rattle.gr_base.specs.Fault.{fault_named}
 use Rattle.gr_base.specs.declared.fault.Fault.{Fault}
 use Rattle.gr_base.specs.declared.fault.FaultKind.{FaultKind}
+use Rattle.gr_base.specs.declared.limits.TheConstants.{LONGEST_KEY}
 use Rattle.gr_base.specs.declared.fault.FaultKind.TheVariants.{BadJson, BadRow, BadValue, EmptyKey, FloatRefused, MissingKey, NoSuchColumn, TooLong}
-use Rattle.std.specs.Cmp.Lexicographic.{pointwise}
+use Rattle.std.specs.Str.{bytes_eq}
 
 -- white space of JSON
 abbrev pub is_white : ℕ → Bool
@@ -42,11 +43,11 @@ without_last_comma text = joined text (around_last_comma text)
 abbrev pub row_fault : FaultKind → ℕ → List ℕ → Fault
 row_fault kind row name = record { kind = kind; row = Some row; at = None; name = name }
 
--- the key of a row: a text of 1 to 4,096 bytes
+-- the key of a row: a text that is not empty and no longer than the longest key
 abbrev pub key_of_text : ℕ → List ℕ → Result (List ℕ) Fault
 key_of_text row key =
     if length key == 0 then Err (row_fault EmptyKey row [])
-    else (if nat_lt 4096 (length key) then Err (row_fault TooLong row (codes "_key")) else Ok key)
+    else (if nat_lt LONGEST_KEY (length key) then Err (row_fault TooLong row (codes "_key")) else Ok key)
 
 -- a number is no key; one that is no whole number of 64 bits is refused as such
 abbrev pub fault_of_number : ℕ → Num → Fault
@@ -66,7 +67,7 @@ key_of_value row (Some (object ms)) = Err (row_fault BadValue row (codes "_key")
 
 -- whether a member gives the key
 abbrev pub is_key_name : List ℕ → Bool
-is_key_name name = pointwise ◌==◌ (codes "_key") name
+is_key_name name = bytes_eq (codes "_key") name
 
 -- the first member, by ascending bytes, that is no key
 abbrev pub first_other : Members → Option (List ℕ)
@@ -116,4 +117,4 @@ keys_of text = keys_of_array (option_and_then as_array (read (without_last_comma
 pub record IsKey (key : List ℕ) : Type 0 where
   pub text : IsUtf8 key
   pub given : 1 ≤ length key
-  pub within : length key ≤ 4096
+  pub within : length key ≤ LONGEST_KEY

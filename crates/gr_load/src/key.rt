@@ -6,13 +6,11 @@ ghost use Rattle.serde_json.specs.Find.{get_member};
 ghost use Rattle.serde_json.specs.View.{members_view, number_view, view};
 ghost use Rattle.gr_load.specs.Rows.{IsKey, alone as alone_of, fault_of_number, first_other, key_of_row, key_of_text, key_of_value, row_fault};
 
-use gr_base::{Bytes, Fault, FaultKind, NoMemory};
+use gr_base::{Bytes, Fault, FaultKind, LONGEST_KEY, NoMemory};
 use serde_json::{Map, Number, Value};
 use std::alloc::Global;
 
 const KEY: &str = "_key";
-
-const KEY_LEN: usize = 4096;
 
 /// The key of a row, or the row's fault.
 type RowKey = Result<Bytes, Fault>;
@@ -104,7 +102,7 @@ fn key_of_text(alloc: Global, row: u64, text: String) -> Result<RowKey, NoMemory
 {
     if text.is_empty() {
         refused(alloc, FaultKind::EmptyKey, row, "")
-    } else if text.len() > KEY_LEN {
+    } else if text.len() > LONGEST_KEY {
         refused(alloc, FaultKind::TooLong, row, KEY)
     } else {
         Ok(Ok(Bytes::from_string(alloc, text)?))

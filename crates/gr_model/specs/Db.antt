@@ -1,7 +1,7 @@
 -- What a database is, as plain lists.
 use Rattle.std.specs.Prelude.{ℕ, ◌+◌, ◌==◌, Bool, if◌then◌else◌, Option, List, [], ◌∷◌, ◌++◌, position, zero, suc}
 use Rattle.std.specs.List.{list_any}
-use Rattle.std.specs.Cmp.Lexicographic.{pointwise}
+use Rattle.std.specs.Str.{bytes_eq}
 
 -- a record: its id and its key
 pub record Row : Type 0 where
@@ -26,21 +26,17 @@ empty = record { tables = [] }
 abbrev pub new_table : List ℕ → Table
 new_table name = record { name = name; rows = []; given = 0 }
 
--- whether two texts are one, byte for byte
-abbrev pub is_same_text : List ℕ → List ℕ → Bool
-is_same_text = pointwise ◌==◌
-
 -- the number of the table of a name, in order of making from 0
 abbrev pub table_number : Db → List ℕ → Option ℕ
-table_number db name = position (λ table. is_same_text table.name name) db.tables
+table_number db name = position (λ table. bytes_eq table.name name) db.tables
 
 -- whether a table has this name
 abbrev pub is_table : Db → List ℕ → Bool
-is_table db name = list_any (λ table. is_same_text table.name name) db.tables
+is_table db name = list_any (λ table. bytes_eq table.name name) db.tables
 
 -- whether a record has this key
 abbrev pub has_key : Table → List ℕ → Bool
-has_key table key = list_any (λ row. is_same_text row.key key) table.rows
+has_key table key = list_any (λ row. bytes_eq row.key key) table.rows
 
 -- a table after a put: a key that is there changes nothing, and another goes last, with the next id
 abbrev pub with_key : Table → List ℕ → Table

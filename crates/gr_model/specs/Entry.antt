@@ -3,6 +3,7 @@ use Rattle.std.specs.Prelude.{ℕ, ◌<◌, ◌≤◌, ◌==◌, Bool, if◌then
 use Rattle.gr_base.specs.Fault.{fault_named}
 use Rattle.gr_base.specs.declared.fault.Fault.{Fault}
 use Rattle.gr_base.specs.declared.fault.FaultKind.TheVariants.{JournalFull, TableFull}
+use Rattle.gr_base.specs.declared.limits.TheConstants.{LONGEST_KEY}
 use Rattle.gr_base.specs.declared.numbers.Limits.{Limits}
 use Rattle.gr_model.specs.Db.{Db, Table, changed_at, empty, has_key, new_table, with_key}
 use Rattle.gr_model.specs.Schema.{wish_fault}
@@ -10,11 +11,11 @@ use Rattle.gr_model.specs.declared.entry.Change.{Change}
 use Rattle.gr_model.specs.declared.entry.Change.TheVariants.{CreateTable, Put}
 use Rattle.gr_model.specs.declared.entry.Entry.{Entry}
 
--- a put fits where its table is there, and its key has 1 to 4,096 bytes
+-- a put fits where its table is there, and its key is not empty and no longer than the longest key
 pub record IsPutValid (db : Db) (table : ℕ) (key : List ℕ) : Type 0 where
   pub there : table < length db.tables
   pub given : 1 ≤ length key
-  pub within : length key ≤ 4096
+  pub within : length key ≤ LONGEST_KEY
 
 -- whether a change fits a database; one that creates always does
 abbrev pub IsValid : Db → Change → Type 0

@@ -1,7 +1,7 @@
 // The names that no table can have.
 ghost use Rattle.std.specs.Prelude.{◌≡◌};
 ghost use Rattle.std.specs.List.{list_any};
-ghost use Rattle.gr_model.specs.Db.{is_same_text};
+ghost use Rattle.std.specs.Str.{bytes_eq};
 ghost use Rattle.gr_model.specs.Schema.{reserved_names};
 
 const RESERVED_NAMES: [&str; 19] = [
@@ -28,14 +28,14 @@ const RESERVED_NAMES: [&str; 19] = [
 
 /// Whether a name is that of a type or a tokenizer, which no table can have.
 pub fn is_reserved(name: &[u8]) -> bool
-    ensures { result ≡ list_any (is_same_text name.now) reserved_names }
+    ensures { result ≡ list_any (bytes_eq name.now) reserved_names }
 {
     is_one_of(name, &RESERVED_NAMES)
 }
 
 // Whether a name is one of some texts.
 fn is_one_of(name: &[u8], texts: &[&str]) -> bool
-    ensures { result ≡ list_any (λ text. is_same_text name.now text.now) texts.now }
+    ensures { result ≡ list_any (λ text. bytes_eq name.now text.now) texts.now }
 {
     texts.iter().any(|text| name == text.as_bytes())
 }

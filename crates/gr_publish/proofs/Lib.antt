@@ -1,3 +1,5 @@
-pub mod Keys
-pub mod Tables
-pub mod Sound
+pub mod AcceptedLemmas
+pub mod ReplayLemmas
+pub mod RowsLemmas
+pub mod SoundLemmas
+pub mod TextsLemmas

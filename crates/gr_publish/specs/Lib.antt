@@ -1,3 +1,3 @@
 pub mod Root
 pub mod Publish
-pub mod Sound
+pub mod Inside

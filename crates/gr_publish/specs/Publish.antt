@@ -1,31 +1,18 @@
 -- What applying and publishing an entry does.
-use Rattle.std.specs.Prelude.{ℕ, ◌≡◌, Option, Result, Ok, Err, IfSome, IsUtf8, length}
-use Rattle.std.specs.Global.{Global}
-use Rattle.std.specs.Arc.{arc_value}
-use Rattle.std.specs.declared.sync.Arc.{Arc}
+use Rattle.std.specs.Prelude.{ℕ, ◌≡◌, Result, Ok, Err, length}
+use Rattle.gr_base.specs.declared.failure.Failure.{Failure}
+use Rattle.gr_base.specs.declared.failure.Failure.TheVariants.{Refused as RootRefused, NoMemory as RootNoMemory}
 use Rattle.gr_base.specs.declared.fault.Fault.{Fault}
 use Rattle.gr_model.specs.declared.entry.Entry.{Entry}
 use Rattle.gr_publish.specs.Root.{IsApplied, IsRefused, Rooted}
-use Rattle.gr_publish.specs.declared.root.RootFault.{RootFault}
-use Rattle.gr_publish.specs.declared.root.RootFault.TheVariants.{Refused as RootRefused, NoMemory as RootNoMemory}
 use Rattle.gr_publish.specs.declared.published.Published.{Published as Answer}
 use Rattle.gr_publish.specs.declared.published.Published.TheVariants.{Published, Refused, NoMemory}
 
--- the name of a fault, where there is one, is text
-abbrev pub NamesText : Option Fault → Type 0
-NamesText fault = IfSome fault (λ found. IsUtf8 found.name)
-
 -- the state after an entry, or its first fault, or no memory was found
-abbrev pub Applies : Rooted → Entry → Result Rooted RootFault → Type 0
+abbrev pub Applies : Rooted → Entry → Result Rooted (Failure Fault) → Type 0
 Applies root entry (Ok new) = IsApplied root new entry
 Applies root entry (Err (RootRefused fault)) = IsRefused root entry fault
 Applies root entry (Err RootNoMemory) = Unit {0}
-
--- the same, of a state that is shared
-abbrev pub AppliesShared : Rooted → Entry → Result (Arc Rooted Global) RootFault → Type 0
-AppliesShared root entry (Ok new) = IsApplied root (arc_value new) entry
-AppliesShared root entry (Err (RootRefused fault)) = IsRefused root entry fault
-AppliesShared root entry (Err RootNoMemory) = Unit {0}
 
 -- the entry stands at its place, the last one
 pub record IsPublished (old new : Rooted) (entry : Entry) (place : ℕ) : Type 0 where

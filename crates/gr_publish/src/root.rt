@@ -2,28 +2,26 @@
 ghost use Rattle.std.specs.Prelude.{◌≡◌, ◌<◌, ◌^◌, [], IfOk, IfSome, IsUtf8, OnOk, MatchOption, length, slice_get};
 ghost use Rattle.std.specs.Option.{option_map};
 ghost use Rattle.std.specs.Arc.{arc_value};
+ghost use Rattle.std.specs.List.{AllByRecursion};
+ghost use Rattle.gr_base.specs.Fault.{fault_named};
 ghost use Rattle.gr_base.specs.Limits.{IsInRange};
+ghost use Rattle.gr_model.specs.Accepted.{IsAccepted};
 ghost use Rattle.gr_model.specs.Db.{changed_at, is_table, table_number, with_key};
 ghost use Rattle.gr_model.specs.Entry.{HoldsText, IsValid, apply, fault_of, journal_fault, replay, room_fault};
-ghost use Rattle.gr_model.specs.Schema.{wish_fault};
+ghost use Rattle.gr_model.specs.Schema.{key_type_fault, wish_fault};
 ghost use Rattle.gr_publish.specs.Root.{extended, rows_from};
-ghost use Rattle.gr_publish.specs.Publish.{Applies, NamesText};
+ghost use Rattle.gr_publish.specs.Inside.Applying.{NamesText};
+ghost use Rattle.gr_publish.specs.Publish.{Applies};
 
 use super::table::TableRows;
-use gr_base::{Bytes, Fault, FaultKind, Limits, NoMemory, TableNo, is_name};
+use gr_base::{Bytes, Failure, Fault, FaultKind, Limits, NoMemory, TableNo, is_name};
 use gr_model::{Change, Entry, Journal, TableWish, is_reserved};
 use std::alloc::Global;
 use std::marker::Model;
 use std::sync::Arc;
 
-/// Why an entry was not applied.
-#[derive(Drop)]
-pub enum RootFault {
-    /// The entry is refused where the journal stands.
-    Refused(Fault),
-    /// No memory was found.
-    NoMemory,
-}
+/// Why an entry was not applied: it is refused where the journal stands, or no memory was found.
+pub type RootFault = Failure<Fault>;
 
 /// A state that never changes, which contracts see as its limits and its journal.
 #[derive(Drop)]
@@ -38,7 +36,7 @@ impl Model for Root {
 
     ghost Value = { Rooted };
 
-    ghost use Rattle.gr_publish.specs.Sound.{IsSound};
+    ghost use Rattle.gr_publish.specs.Inside.Sound.{IsSound};
 
     ghost view = { λ root. record { limits = root.limits; journal = root.journal } };
 
@@ -60,7 +58,8 @@ impl Root {
 
     /// Its journal, lent.
     pub fn journal(&self) -> &Journal
-        ensures { result.now ≡ self.now.journal }
+        ensures value { result.now ≡ self.now.journal }
+        ensures accepted { IsAccepted self.now.limits self.now.journal }
     {
         &self.journal
     }
@@ -75,7 +74,8 @@ impl Root {
     /// The keys of a table's records, whose ids count from 1.
     pub fn keys(&self, table: TableNo) -> &[Bytes]
         requires { table.0 < length (replay self.now.journal).tables }
-        ensures { MatchOption (slice_get (replay self.now.journal).tables table.0) ⊥ (λ found. found.rows ≡ rows_from 1 result.now) }
+        ensures records { MatchOption (slice_get (replay self.now.journal).tables table.0) ⊥ (λ found. found.rows ≡ rows_from 1 result.now) }
+        ensures text { AllByRecursion IsUtf8 result.now }
     {
         self.tables[table.0 as usize].keys()
     }
@@ -87,13 +87,14 @@ impl Root {
         ensures { Applies self.now (arc_value entry) result }
     {
         match self.fault_of(alloc, &entry.change)? {
-            Some(fault) => Err(RootFault::Refused(fault)),
+            Some(fault) => Err(Failure::Refused(fault)),
             None => Ok(self.accepted(alloc, entry)?),
         }
     }
 
     // The state after an entry that is not refused.
     fn accepted(&self, alloc: Global, entry: Arc<Entry>) -> Result<Root, NoMemory>
+        requires valid { IsValid (replay self.now.journal) (arc_value entry).change }
         requires faultless { fault_of self.now.limits self.now.journal (arc_value entry).change ≡ None }
         requires text { HoldsText (arc_value entry).change }
         ensures { IfOk result (λ root. root ≡ extended self.now (arc_value entry)) }
@@ -114,7 +115,7 @@ impl Root {
         ensures text { IfOk result NamesText }
     {
         let fault = match change {
-            Change::CreateTable(wish) => self.wish_fault(wish)?,
+            Change::CreateTable(wish) => self.wish_fault(alloc, wish)?,
             Change::Put { table, key } => self.room_fault(*table, key.as_slice())?,
         };
         match fault {
@@ -123,7 +124,7 @@ impl Root {
         }
     }
 
-    fn wish_fault(&self, wish: &TableWish) -> Result<Option<Fault>, NoMemory>
+    fn wish_fault(&self, alloc: Global, wish: &TableWish) -> Result<Option<Fault>, NoMemory>
         requires { IsUtf8 wish.now.name }
         ensures first { IfOk result (λ fault. fault ≡ wish_fault (replay self.now.journal) wish.now) }
         ensures text { IfOk result NamesText }
@@ -134,7 +135,7 @@ impl Root {
         } else if is_reserved(name) || is_among(&self.tables, name) {
             FaultKind::NameTaken
         } else {
-            return Ok(None);
+            return key_type_fault(alloc, wish.key_type.as_slice());
         };
         Ok(Some(Fault::named(kind, wish.name.try_clone()?)))
     }
@@ -159,8 +160,28 @@ impl Root {
         if self.journal.len() != self.limits.journal {
             return Ok(None);
         }
-        Ok(Some(Fault::named(FaultKind::JournalFull, Bytes::from_slice(alloc, b"")?)))
+        Ok(Some(unnamed(alloc, FaultKind::JournalFull)?))
     }
+}
+
+// The fault of a key type that is not given.
+fn key_type_fault(alloc: Global, key_type: &[u8]) -> Result<Option<Fault>, NoMemory>
+    ensures first { IfOk result (λ fault. fault ≡ key_type_fault key_type.now) }
+    ensures text { IfOk result NamesText }
+{
+    if key_type.is_empty() {
+        Ok(Some(unnamed(alloc, FaultKind::BadType)?))
+    } else {
+        Ok(None)
+    }
+}
+
+// A fault without a name.
+fn unnamed(alloc: Global, kind: FaultKind) -> Result<Fault, NoMemory>
+    ensures exact { IfOk result (λ fault. fault ≡ fault_named kind []) }
+    ensures text { IfOk result (λ fault. IsUtf8 fault.name) }
+{
+    Ok(Fault::named(kind, Bytes::from_string(alloc, String::new(alloc))?))
 }
 
 // The tables after a change; they share their texts with those before it.
@@ -193,6 +214,7 @@ fn shared_tables(alloc: Global, tables: &[TableRows]) -> Result<Vec<TableRows>, 
 
 // Puts a record of this key into the table of this number, where there is one.
 fn put_into(tables: &mut Vec<TableRows>, table: TableNo, key: Bytes) -> Result<(), NoMemory>
+    requires { IsUtf8 key }
     ensures { OnOk result (tables.new.items ≡ changed_at (λ found. with_key found key) table.0 tables.old.items) }
 {
     match tables.get_mut(table.0 as usize) {
@@ -224,15 +246,4 @@ fn place_named(tables: &[TableRows], name: &[u8]) -> Option<usize>
     tables
         .iter()
         .position(|table| table.name().as_slice() == name)
-}
-
-impl From<NoMemory> for RootFault {
-    ghost use Rattle.std.specs.Prelude.{◌≡◌};
-    ghost use Rattle.gr_publish.specs.declared.root.RootFault.TheVariants.{NoMemory as WantOfMemory};
-
-    ghost from_gives = { λ _ fault. fault ≡ WantOfMemory };
-
-    fn from(_none: NoMemory) -> RootFault {
-        RootFault::NoMemory
-    }
 }

@@ -3,10 +3,11 @@ ghost use Rattle.std.specs.Prelude.{◌≡◌, [], IfOk};
 ghost use Rattle.std.specs.Arc.{arc_value};
 ghost use Rattle.gr_base.specs.Limits.{IsInRange};
 ghost use Rattle.gr_model.specs.Entry.{HoldsText, IsValid, replay};
-ghost use Rattle.gr_publish.specs.Publish.{AppliesShared, Publishes};
+ghost use Rattle.gr_publish.specs.Inside.Applying.{AppliesShared};
+ghost use Rattle.gr_publish.specs.Publish.{Publishes};
 
 use super::{Published, Root, RootFault};
-use gr_base::{Limits, NoMemory};
+use gr_base::{Failure, Limits, NoMemory};
 use gr_model::Entry;
 use std::alloc::Global;
 use std::marker::Model;
@@ -56,8 +57,8 @@ impl Solo {
                 self.root = root;
                 Published::Published { place: mark }
             }
-            Err(RootFault::Refused(fault)) => Published::Refused { fault, mark },
-            Err(RootFault::NoMemory) => Published::NoMemory { mark },
+            Err(Failure::Refused(fault)) => Published::Refused { fault, mark },
+            Err(Failure::NoMemory) => Published::NoMemory { mark },
         }
     }
 
@@ -67,14 +68,9 @@ impl Solo {
         requires text { HoldsText entry.change }
         ensures { AppliesShared self.now entry result }
     {
-        let Ok(entry) = Arc::new(alloc, entry) else {
-            return Err(RootFault::NoMemory);
-        };
+        let entry = Arc::new(alloc, entry)?;
         let root = self.root.applied(alloc, entry)?;
-        match Arc::new(alloc, root) {
-            Ok(root) => Ok(root),
-            Err(_) => Err(RootFault::NoMemory),
-        }
+        Ok(Arc::new(alloc, root)?)
     }
 
     /// The newest state.

@@ -1,14 +1,15 @@
 // One table of a state: its name, and its keys in order of their ids.
 ghost use Rattle.std.specs.Prelude.{◌≡◌, IfOk, IsUtf8, OnOk};
-ghost use Rattle.std.specs.List.{list_any};
-ghost use Rattle.gr_model.specs.Db.{has_key, is_same_text, new_table, with_key};
+ghost use Rattle.std.specs.List.{AllByRecursion, list_any};
+ghost use Rattle.std.specs.Str.{bytes_eq};
+ghost use Rattle.gr_model.specs.Db.{has_key, new_table, with_key};
 ghost use Rattle.gr_publish.specs.Root.{rows_from};
 
 use gr_base::{Bytes, NoMemory};
 use std::alloc::Global;
 use std::marker::Model;
 
-/// A table, which contracts see as its name, which is text, and its records. Ids count from 1, and none goes.
+/// A table, which contracts see as its name and its records; the name and the keys are text. Ids count from 1, and none goes.
 #[derive(Drop)]
 pub(crate) struct TableRows {
     name: Bytes,
@@ -16,15 +17,16 @@ pub(crate) struct TableRows {
 }
 
 impl Model for TableRows {
-    ghost use Rattle.std.specs.Prelude.{IsUtf8, length};
+    ghost use Rattle.std.specs.Prelude.{length};
     ghost use Rattle.gr_model.specs.Db.{Table};
+    ghost use Rattle.gr_publish.specs.Inside.Texts.{HoldsTexts};
     ghost use Rattle.gr_publish.specs.Root.{rows_from};
 
     ghost Value = { Table };
 
     ghost view = { λ t. record { name = t.name; rows = rows_from 1 t.keys.items; given = length t.keys.items } };
 
-    ghost invariant = { λ t. IsUtf8 t.name };
+    ghost invariant = { HoldsTexts };
 }
 
 impl TableRows {
@@ -52,7 +54,8 @@ impl TableRows {
     }
 
     pub(crate) fn keys(&self) -> &[Bytes]
-        ensures { rows_from 1 result.now ≡ self.now.rows }
+        ensures records { rows_from 1 result.now ≡ self.now.rows }
+        ensures text { AllByRecursion IsUtf8 result.now }
     {
         self.keys.as_slice()
     }
@@ -75,6 +78,7 @@ impl TableRows {
 
     // Puts a record of this key; one that is there stays.
     pub(crate) fn put(&mut self, key: Bytes) -> Result<(), NoMemory>
+        requires { IsUtf8 key }
         ensures { OnOk result (self.new ≡ with_key self.old key) }
     {
         if !self.has_key(key.as_slice()) {
@@ -86,7 +90,7 @@ impl TableRows {
 
 // Whether a key is among others.
 fn is_among(keys: &[Bytes], key: &[u8]) -> bool
-    ensures { result ≡ list_any (λ other. is_same_text other key.now) keys.now }
+    ensures { result ≡ list_any (λ other. bytes_eq other key.now) keys.now }
 {
     keys.iter().any(|other| other.as_slice() == key)
 }

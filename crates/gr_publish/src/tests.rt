@@ -41,7 +41,7 @@ fn create(solo: &mut Solo, alloc: Global, name: &str) -> Result<(u64, Bytes), No
     let wish = TableWish {
         name: text(alloc, name)?,
         flags: not_given.try_clone()?,
-        key_type: not_given.try_clone()?,
+        key_type: text(alloc, "ShortText")?,
         tokenizer: not_given,
     };
     publish(solo, alloc, Change::CreateTable(wish))

@@ -1,11 +1,12 @@
 -- How a run goes on by one session, and by one phase.
-use Rattle.std.proofs.Common.{◌≡◌, ℕ, suc, ◌+◌, ◌≤◌, ◌<◌, ◌⊎◌, Option, List, [], ◌∷◌, ◌++◌, length, inl, inr, refl, sym, ap, ◌∙◌, arith, add-zero, append-nil, append_assoc, length-append}
+use Rattle.std.proofs.Common.{◌≡◌, ℕ, suc, ◌+◌, ◌≤◌, ◌<◌, ◌⊎◌, List, [], ◌∷◌, ◌++◌, length, inl, inr, refl, sym, ap, ◌∙◌, arith, add-zero, append-nil, append_assoc, length-append}
 use Rattle.std.proofs.lemmas.Grind.{flat_map-append}
 use Rattle.std.proofs.lemmas.List.{length_push, map-append}
 use Rattle.std.proofs.lemmas.List.Elements.{Contains-push_cases}
 use Rattle.std.specs.List.{AllByRecursion, Contains}
 use Rattle.gr_base.specs.declared.numbers.Limits.{Limits}
 use Rattle.gr_model.specs.declared.entry.Entry.{Entry}
+use Rattle.gr_outside.specs.Outside.{Told}
 use Rattle.gr_runner.specs.Course.{Course, IsAmong, RunsPhase}
 use Rattle.gr_runner.specs.History.{IsBefore, label_of, labels_in, labels_of, sources_of}
 use Rattle.gr_runner.specs.Served.{IsOfSession, Serves}
@@ -57,9 +58,9 @@ IsAmong-more sessions phases entries more_sessions more_phases more_entries log 
   marks = all_weaker (λ reply. reply.mark ≤ entries) (λ reply. reply.mark ≤ more_entries) log.done (λ reply within. omega (arith, within, in_entries)) among.marks;
 }
 
-module _ {S : Type 0} (told : S → Option (List ℕ)) (faults : S → ℕ) (reaches : S → ℕ → ℕ → Type 0) (limits : Limits) where
+module _ {S : Type 0} (told : S → Told) (limits : Limits) where
   -- before the first phase
-  pub Course-none : Course told faults reaches limits [] [] []
+  pub Course-none : Course told limits [] [] []
   Course-none = record {
     history = record {
       accepted = λ place entry is. cc;
@@ -72,7 +73,7 @@ module _ {S : Type 0} (told : S → Option (List ℕ)) (faults : S → ℕ) (rea
   }
 
   -- a phase begins
-  pub Course-begun : (phases : List (List S)) (journal : List Entry) (logs : List SessionLog) → Course told faults reaches limits phases journal logs → Course told faults reaches limits (phases ++ [] ∷ []) journal logs
+  pub Course-begun : (phases : List (List S)) (journal : List Entry) (logs : List SessionLog) → Course told limits phases journal logs → Course told limits (phases ++ [] ∷ []) journal logs
   Course-begun phases journal logs course = record {
     history = record {
       accepted = course.history.accepted;
@@ -84,7 +85,7 @@ module _ {S : Type 0} (told : S → Option (List ℕ)) (faults : S → ℕ) (rea
     sessions = λ log among. IsAmong-more (length logs) (length phases) (length journal) (length logs) (length (phases ++ [] ∷ [])) (length journal) log (omega arith) (omega (arith, length_push phases [])) (omega arith) (course.sessions log among);
   }
 
-  module _ (phases : List (List S)) (sources : List S) (source : S) (old added : List Entry) (logs : List SessionLog) (log : SessionLog) (number phase : ℕ) (number_is : number ≡ length logs + 1) (phase_is : phase ≡ length phases + 1) (course : Course told faults reaches limits (phases ++ sources ∷ []) old logs) (serves : Serves limits (told source) (faults source) (reaches source) number phase old (old ++ added) log) (owned : AllByRecursion (IsOfSession number (length log.done)) added) where
+  module _ (phases : List (List S)) (sources : List S) (source : S) (old added : List Entry) (logs : List SessionLog) (log : SessionLog) (number phase : ℕ) (number_is : number ≡ length logs + 1) (phase_is : phase ≡ length phases + 1) (course : Course told limits (phases ++ sources ∷ []) old logs) (serves : Serves limits (told source) number phase old (old ++ added) log) (owned : AllByRecursion (IsOfSession number (length log.done)) added) where
     earlier_number : (other : SessionLog) → Contains logs other → other.number.0 < number
     earlier_number other among = let within = (course.sessions other among).number in omega (arith, within, number_is)
 
@@ -111,31 +112,31 @@ module _ {S : Type 0} (told : S → Option (List ℕ)) (faults : S → ℕ) (rea
 
     label_is : label_of log ∷ [] ≡ (1 + length (sources_of (phases ++ sources ∷ [])), 1 + length phases) ∷ []
     label_is =
-        let count = AllHold-length told faults reaches limits old (sources_of (phases ++ sources ∷ [])) logs course.history.sessions in
+        let count = AllHold-length told limits old (sources_of (phases ++ sources ∷ [])) logs course.history.sessions in
         let number_there : log.number.0 ≡ 1 + length (sources_of (phases ++ sources ∷ [])) = omega (arith, serves.number_is, number_is, count) in
         let phase_there : log.phase ≡ 1 + length phases = omega (arith, serves.phase_is, phase_is) in
         ap (λ at. (at, log.phase) ∷ []) number_there ∙ ap (λ at. (1 + length (sources_of (phases ++ sources ∷ [])), at) ∷ []) phase_there
 
-    Course-grown : Course told faults reaches limits (phases ++ (sources ++ source ∷ []) ∷ []) (old ++ added) (logs ++ log ∷ [])
+    Course-grown : Course told limits (phases ++ (sources ++ source ∷ []) ∷ []) (old ++ added) (logs ++ log ∷ [])
     Course-grown = record {
       history = record {
         accepted = serves.accepted course.history.accepted;
         labels = map-append label_of logs (log ∷ []) ∙ ap (λ labels. labels ++ label_of log ∷ []) course.history.labels ∙ ap (λ label. labels_of 1 1 (phases ++ sources ∷ []) ++ label) label_is ∙ sym (labels_of-next 1 1 phases sources source);
         owners = owners-more logs log number old added serves.number_is course.history.owners owned;
         in_phases = λ earlier later first second below. in_phases-next earlier later (Contains-push_cases logs log earlier first) (Contains-push_cases logs log later second) below;
-        sessions = rw (sources_of-next phases sources source) (AllHold-more limits old added number (length log.done) owned told faults reaches (sources_of (phases ++ sources ∷ [])) logs source log (all_of (λ other. other.number.0 < number) logs earlier_number) course.history.sessions serves.holds);
+        sessions = rw (sources_of-next phases sources source) (AllHold-more limits old added number (length log.done) owned told (sources_of (phases ++ sources ∷ [])) logs source log (all_of (λ other. other.number.0 < number) logs earlier_number) course.history.sessions serves.holds);
       };
       sessions = λ other among. sessions-next other (Contains-push_cases logs log other among);
     }
 
   -- a phase goes on by one session
-  pub Course-next : (phases : List (List S)) (sources : List S) (source : S) (old new : List Entry) (logs : List SessionLog) (log : SessionLog) (number phase : ℕ) → number ≡ length logs + 1 → phase ≡ length phases + 1 → Course told faults reaches limits (phases ++ sources ∷ []) old logs → Serves limits (told source) (faults source) (reaches source) number phase old new log → Course told faults reaches limits (phases ++ (sources ++ source ∷ []) ∷ []) new (logs ++ log ∷ [])
+  pub Course-next : (phases : List (List S)) (sources : List S) (source : S) (old new : List Entry) (logs : List SessionLog) (log : SessionLog) (number phase : ℕ) → number ≡ length logs + 1 → phase ≡ length phases + 1 → Course told limits (phases ++ sources ∷ []) old logs → Serves limits (told source) number phase old new log → Course told limits (phases ++ (sources ++ source ∷ []) ∷ []) new (logs ++ log ∷ [])
   Course-next phases sources source old new logs log number phase number_is phase_is course serves =
-      let there : Serves limits (told source) (faults source) (reaches source) number phase old (old ++ serves.added) log = rw (← serves.grows) serves in
+      let there : Serves limits (told source) number phase old (old ++ serves.added) log = rw (← serves.grows) serves in
       rw serves.grows (Course-grown phases sources source old serves.added logs log number phase number_is phase_is course there serves.owned)
 
   -- a phase of no sources so far
-  pub RunsPhase-begun : (phase : ℕ) (journal : List Entry) (logs : List SessionLog) → RunsPhase told faults reaches limits phase [] journal journal logs logs
+  pub RunsPhase-begun : (phase : ℕ) (journal : List Entry) (logs : List SessionLog) → RunsPhase told limits phase [] journal journal logs logs
   RunsPhase-begun phase journal logs = record {
     added = [];
     logs = sym (append-nil logs);
@@ -145,7 +146,7 @@ module _ {S : Type 0} (told : S → Option (List ℕ)) (faults : S → ℕ) (rea
   }
 
   -- its next source is served
-  pub RunsPhase-next : (phase number : ℕ) (sources : List S) (source : S) (old now new : List Entry) (before logs : List SessionLog) (log : SessionLog) → number ≡ length logs + 1 → RunsPhase told faults reaches limits phase sources old now before logs → Serves limits (told source) (faults source) (reaches source) number phase now new log → RunsPhase told faults reaches limits phase (sources ++ source ∷ []) old new before (logs ++ log ∷ [])
+  pub RunsPhase-next : (phase number : ℕ) (sources : List S) (source : S) (old now new : List Entry) (before logs : List SessionLog) (log : SessionLog) → number ≡ length logs + 1 → RunsPhase told limits phase sources old now before logs → Serves limits (told source) number phase now new log → RunsPhase told limits phase (sources ++ source ∷ []) old new before (logs ++ log ∷ [])
   RunsPhase-next phase number sources source old now new before logs log number_is runs serves = record {
     added = runs.added ++ log ∷ [];
     logs = ap (λ front. front ++ log ∷ []) runs.logs ∙ append_assoc before runs.added (log ∷ []);

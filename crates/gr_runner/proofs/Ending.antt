@@ -2,6 +2,7 @@
 use Rattle.std.proofs.Common.{◌≡◌, ℕ, Option, Some, None, List, [], ◌∷◌, ◌++◌, inl, refl, ap, ◌∙◌}
 use Rattle.std.specs.Io.KnownBytes.{Appends}
 use Rattle.std.specs.List.{AllByRecursion}
+use Rattle.gr_outside.specs.Outside.{Taken}
 use Rattle.gr_runner.specs.Course.{status_of_end}
 use Rattle.gr_runner.specs.Run.{IsCause, IsWritten, end_or, first_unfinished, texts_of}
 use Rattle.gr_runner.specs.declared.report.End.{End}
@@ -54,7 +55,7 @@ cause_of_end phases started logs write_failed (Some (Read faults)) first written
 cause_of_end phases started logs write_failed (Some (SourceTooLong bytes)) first written not_ok = (bytes, record { first = first; written = written })
 cause_of_end phases started logs write_failed (Some NoMemoryEnd) first written not_ok = record { first = inl first; written = written }
 
-pub written_of_end : (end : Option End) (started : ℕ) (logs : List SessionLog) (before after : Option (List ℕ)) → Appends before after (texts_of logs) → IsWritten (status_of_end end) started logs before after
+pub written_of_end : (end : Option End) (started : ℕ) (logs : List SessionLog) (before after : Taken) → Appends before.bytes after.bytes (texts_of logs) → IsWritten (status_of_end end) started logs before after
 written_of_end None started logs before after taken = taken
 written_of_end (Some Finished) started logs before after taken = taken
 written_of_end (Some (Read faults)) started logs before after taken = taken

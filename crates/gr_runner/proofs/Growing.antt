@@ -1,14 +1,15 @@
 -- What holds of earlier sessions where the journal grows by the entries of a later one.
-use Rattle.std.proofs.Common.{◌≡◌, ℕ, ◌+◌, ◌==◌, ◌≤◌, ◌<◌, false, Option, List, [], ◌∷◌, ◌++◌, length, inl, inr, refl, sym, ◌∙◌, arith, length-append}
+use Rattle.std.proofs.Common.{◌≡◌, ℕ, ◌+◌, ◌==◌, ◌≤◌, ◌<◌, false, List, [], ◌∷◌, ◌++◌, length, inl, inr, refl, sym, ◌∙◌, arith, length-append}
 use Rattle.std.proofs.lemmas.Bool.Decides.{nat_tests}
 use Rattle.std.proofs.lemmas.List.Elements.{Contains-append_left, Contains-push}
 use Rattle.std.specs.List.{AllByRecursion}
 use Rattle.gr_base.specs.declared.numbers.Limits.{Limits}
 use Rattle.gr_model.specs.declared.entry.Entry.{Entry}
+use Rattle.gr_outside.specs.Outside.{Told}
 use Rattle.gr_session.specs.Own.{is_own}
-use Rattle.gr_session.specs.declared.command.Next.{Next}
+use Rattle.gr_cmdline.specs.declared.command.Item.{Item}
 use Rattle.gr_session.specs.declared.session.Done.{Done}
-use Rattle.gr_session.proofs.Owning.{IsStarved-more, Reply-more}
+use Rattle.gr_session.proofs.ReplyLemmas.{IsStarved-more, Reply-more}
 use Rattle.gr_runner.proofs.Replying.{Climbs-raise}
 use Rattle.gr_runner.proofs.Lists.{all_append, all_weaker, at_or_added}
 use Rattle.gr_runner.specs.History.{AllHold, IsBefore, IsOwned}
@@ -28,7 +29,7 @@ others : (session command number count : ℕ) (added : List Entry) → session <
 others session command number count added earlier owned =
     all_weaker (IsOfSession number count) (λ entry. is_own session command entry ≡ false) added (λ entry of_session. not_own session command number entry earlier of_session.session) owned
 
-Replies-more : (limits : Limits) (journal more : List Entry) (session command : ℕ) (items : List Next) (done : List Done) (end : End) → ((number : ℕ) → AllByRecursion (λ entry. is_own session number entry ≡ false) more) → Replies limits journal session command items done end → Replies limits (journal ++ more) session command items done end
+Replies-more : (limits : Limits) (journal more : List Entry) (session command : ℕ) (items : List Item) (done : List Done) (end : End) → ((number : ℕ) → AllByRecursion (λ entry. is_own session number entry ≡ false) more) → Replies limits journal session command items done end → Replies limits (journal ++ more) session command items done end
 Replies-more limits journal more session command items [] end apart replies = replies
 Replies-more limits journal more session command [] (reply ∷ done) end apart replies = absurd replies
 Replies-more limits journal more session command (item ∷ items) (reply ∷ done) end apart (inl both) =
@@ -75,25 +76,25 @@ IsBefore-opened old added number count earlier log apart opened owned marks = re
 -- ---- sessions
 
 module _ (limits : Limits) (old added : List Entry) (number count : ℕ) (owned : AllByRecursion (IsOfSession number count) added) where
-  Holds-more : (told : Option (List ℕ)) (faults : ℕ) (reaches : ℕ → ℕ → Type 0) (log : SessionLog) → log.number.0 < number → Holds limits told faults reaches old log → Holds limits told faults reaches (old ++ added) log
-  Holds-more told faults reaches log earlier holds = record {
+  Holds-more : (told : Told) (log : SessionLog) → log.number.0 < number → Holds limits told old log → Holds limits told (old ++ added) log
+  Holds-more told log earlier holds = record {
     items = holds.items;
     read = holds.read;
     replies = Replies-more limits old added log.number.0 0 holds.items log.done log.end (λ command. others log.number.0 command number count added earlier owned) holds.replies;
     climbs = Climbs-raise log.opened log.done (length old) (length (old ++ added)) (omega (arith, length-append old added)) holds.climbs;
   }
 
-  module _ {S : Type 0} (told : S → Option (List ℕ)) (faults : S → ℕ) (reaches : S → ℕ → ℕ → Type 0) where
+  module _ {S : Type 0} (told : S → Told) where
     -- earlier sessions still hold, and one more does
-    pub AllHold-more : (sources : List S) (logs : List SessionLog) (source : S) (log : SessionLog) → AllByRecursion (λ log. log.number.0 < number) logs → AllHold told faults reaches limits old sources logs → Holds limits (told source) (faults source) (reaches source) (old ++ added) log → AllHold told faults reaches limits (old ++ added) (sources ++ source ∷ []) (logs ++ log ∷ [])
+    pub AllHold-more : (sources : List S) (logs : List SessionLog) (source : S) (log : SessionLog) → AllByRecursion (λ log. log.number.0 < number) logs → AllHold told limits old sources logs → Holds limits (told source) (old ++ added) log → AllHold told limits (old ++ added) (sources ++ source ∷ []) (logs ++ log ∷ [])
     AllHold-more [] [] source log earlier hold holds = (holds, tt)
     AllHold-more [] (other ∷ logs) source log earlier hold holds = absurd hold
     AllHold-more (other ∷ sources) [] source log earlier hold holds = absurd hold
     AllHold-more (first ∷ sources) (other ∷ logs) source log earlier hold holds =
-        (Holds-more (told first) (faults first) (reaches first) other earlier.0 hold.0, AllHold-more sources logs source log earlier.1 hold.1 holds)
+        (Holds-more (told first) other earlier.0 hold.0, AllHold-more sources logs source log earlier.1 hold.1 holds)
 
-pub AllHold-length : {S : Type 0} (told : S → Option (List ℕ)) (faults : S → ℕ) (reaches : S → ℕ → ℕ → Type 0) (limits : Limits) (journal : List Entry) (sources : List S) (logs : List SessionLog) → AllHold told faults reaches limits journal sources logs → length logs ≡ length sources
-AllHold-length told faults reaches limits journal [] [] hold = refl
-AllHold-length told faults reaches limits journal [] (log ∷ logs) hold = absurd hold
-AllHold-length told faults reaches limits journal (source ∷ sources) [] hold = absurd hold
-AllHold-length told faults reaches limits journal (source ∷ sources) (log ∷ logs) hold = let rest = AllHold-length told faults reaches limits journal sources logs hold.1 in cc
+pub AllHold-length : {S : Type 0} (told : S → Told) (limits : Limits) (journal : List Entry) (sources : List S) (logs : List SessionLog) → AllHold told limits journal sources logs → length logs ≡ length sources
+AllHold-length told limits journal [] [] hold = refl
+AllHold-length told limits journal [] (log ∷ logs) hold = absurd hold
+AllHold-length told limits journal (source ∷ sources) [] hold = absurd hold
+AllHold-length told limits journal (source ∷ sources) (log ∷ logs) hold = let rest = AllHold-length told limits journal sources logs hold.1 in cc

@@ -2,6 +2,7 @@ mod Completing
 mod Coursing
 mod Ending
 mod Growing
+mod Holding
 mod Lists
 mod Opened
 mod Progressing

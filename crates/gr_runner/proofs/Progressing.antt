@@ -9,12 +9,12 @@ use Rattle.gr_base.specs.declared.numbers.Limits.{Limits}
 use Rattle.gr_model.specs.Accepted.{IsAccepted}
 use Rattle.gr_model.specs.declared.entry.Entry.{Entry}
 use Rattle.gr_publish.specs.Root.{Rooted}
-use Rattle.gr_session.proofs.Owning.{own_from-others}
+use Rattle.gr_session.proofs.OwnLemmas.{own_from-others}
 use Rattle.gr_session.specs.Own.{is_own, own}
 use Rattle.gr_session.specs.Reply.{IsStarved, Reply}
 use Rattle.gr_session.specs.Solo.{Steps}
 use Rattle.gr_session.specs.Step.{Standing}
-use Rattle.gr_session.specs.declared.command.Next.{Next}
+use Rattle.gr_cmdline.specs.declared.command.Item.{Item}
 use Rattle.gr_session.specs.declared.session.Done.{Done}
 use Rattle.gr_runner.proofs.Lists.{all_append, all_weaker}
 use Rattle.gr_runner.proofs.Replying.{all_later, Climbs-push, Climbs-raise, Replies-more, Replies-push, Replies-starve, Replies-stop}
@@ -24,7 +24,7 @@ use Rattle.gr_runner.specs.Sessions.{Climbs, Replies}
 use Rattle.gr_runner.specs.declared.report.End.TheVariants.{Finished}
 
 -- what one command did to its session and to the journal, under the limits of both
-pub record RunsAt (before after : Standing) (old new : List Entry) (item : Next) (done : Done) : Type 0 where
+pub record RunsAt (before after : Standing) (old new : List Entry) (item : Item) (done : Done) : Type 0 where
   pub added : List Entry
   pub grows : new ≡ old ++ added
   pub owned : AllByRecursion (λ entry. is_own before.session before.command entry ≡ true) added
@@ -38,12 +38,12 @@ pub record RunsAt (before after : Standing) (old new : List Entry) (item : Next)
   pub mark : after.mark ≡ done.mark
   pub idle : after.going ≡ None
 
-pub runs_at : (before after : Standing) (old new : Rooted) (item : Next) (done : Done) → before.limits ≡ old.limits → Steps before after old new item done → RunsAt before after old.journal new.journal item done
+pub runs_at : (before after : Standing) (old new : Rooted) (item : Item) (done : Done) → before.limits ≡ old.limits → Steps before after old new item done → RunsAt before after old.journal new.journal item done
 runs_at before after old new item done same steps = record {
   added = steps.added;
   grows = steps.grows;
   owned = steps.owned;
-  accepted = rw same (rw steps.limits at steps.accepted);
+  accepted = λ before. rw same (rw steps.limits at steps.accepted);
   from = steps.from;
   reply = rw same steps.reply;
   limits = steps.limits_same;
@@ -95,21 +95,21 @@ earlier-more number commands old added earlier owned = all_append (IsEarlier num
     (all_weaker (λ entry. is_own number commands entry ≡ true) (IsEarlier number (commands + 1)) added (λ entry own. inr (own_owned number commands entry own)) owned)
 
 -- the entries of one command, at its number among the replies
-owned_at : (before after : Standing) (old new : List Entry) (item : Next) (done : Done) (dones : List Done) → IsReady before old dones → (steps : RunsAt before after old new item done) → AllByRecursion (λ entry. is_own before.session (length dones) entry ≡ true) steps.added
+owned_at : (before after : Standing) (old new : List Entry) (item : Item) (done : Done) (dones : List Done) → IsReady before old dones → (steps : RunsAt before after old new item done) → AllByRecursion (λ entry. is_own before.session (length dones) entry ≡ true) steps.added
 owned_at before after old new item done dones ready steps = rw ready.counted at steps.owned
 
 -- the replies so far stand where one command's entries follow
-replies_kept : (before after : Standing) (old new : List Entry) (item : Next) (done : Done) (dones : List Done) (first : List Next) → IsReady before old dones → RunsAt before after old new item done → Replies before.limits old before.session 0 first dones Finished → Replies before.limits new before.session 0 first dones Finished
+replies_kept : (before after : Standing) (old new : List Entry) (item : Item) (done : Done) (dones : List Done) (first : List Item) → IsReady before old dones → RunsAt before after old new item done → Replies before.limits old before.session 0 first dones Finished → Replies before.limits new before.session 0 first dones Finished
 replies_kept before after old new item done dones first ready steps replies =
     rw steps.grows (Replies-more before.limits old steps.added before.session 0 first dones
     (λ earlier below. all_later before.session (length dones) earlier steps.added (omega arith) (owned_at before after old new item done dones ready steps)) replies)
 
-grown_on : (before after : Standing) (old new base : List Entry) (item : Next) (done : Done) (dones : List Done) → IsReady before old dones → RunsAt before after old new item done → Grows before.limits before.session (length dones) base old → Grows before.limits before.session (length (dones ++ done ∷ [])) base new
+grown_on : (before after : Standing) (old new base : List Entry) (item : Item) (done : Done) (dones : List Done) → IsReady before old dones → RunsAt before after old new item done → Grows before.limits before.session (length dones) base old → Grows before.limits before.session (length (dones ++ done ∷ [])) base new
 grown_on before after old new base item done dones ready steps grown =
     rw (length_push dones done) (Grows-more before.limits before.session (length dones) base old new steps.added grown steps.grows (owned_at before after old new item done dones ready steps) steps.accepted)
 
 -- one command was run
-module _ (before after : Standing) (old new : List Entry) (item : Next) (done : Done) (dones : List Done) (ready : IsReady before old dones) (steps : RunsAt before after old new item done) where
+module _ (before after : Standing) (old new : List Entry) (item : Item) (done : Done) (dones : List Done) (ready : IsReady before old dones) (steps : RunsAt before after old new item done) where
   reply_of : after.ended ≡ false → Reply before.limits new before.session (length dones) item done
   reply_of running = rw ready.counted at (MatchBool-at_false (IsStarved new before.session before.command item done) (Reply before.limits new before.session before.command item done) running (steps.reply (none_yet before old dones ready)))
 
@@ -134,7 +134,7 @@ module _ (before after : Standing) (old new : List Entry) (item : Next) (done : 
       let from = steps.from in
       Climbs-push (length base) dones before.mark done top climbs (omega arith) order above
 
-  further : after.ended ≡ false → (base : List Entry) (first : List Next) → IsSoFar base old before first dones → IsSoFar base new after (first ++ item ∷ []) (dones ++ done ∷ [])
+  further : after.ended ≡ false → (base : List Entry) (first : List Item) → IsSoFar base old before first dones → IsSoFar base new after (first ++ item ∷ []) (dones ++ done ∷ [])
   further running base first so_far =
       let reply = reply_of running in
       record {
@@ -156,7 +156,7 @@ module _ (before after : Standing) (old new : List Entry) (item : Next) (done : 
       }
 
 -- where nothing more was run, and no memory was found
-pub stops_here : (standing : Standing) (journal : List Entry) (items : List Next) (dones : List Done) → IsReady standing journal dones → Stops standing journal journal items dones dones
+pub stops_here : (standing : Standing) (journal : List Entry) (items : List Item) (dones : List Done) → IsReady standing journal dones → Stops standing journal journal items dones dones
 stops_here standing journal items dones ready base first so_far =
     let behind = ready.behind in
     record {
@@ -168,7 +168,7 @@ stops_here standing journal items dones ready base first so_far =
 pub advances_none : (standing : Standing) (journal : List Entry) (dones : List Done) → IsReady standing journal dones → Advances standing standing journal journal [] dones dones
 advances_none standing journal dones ready = record { ready = ready; limits = refl; session = refl; so_far = λ base first so_far. rw (append-nil first) so_far }
 
-pub advances_on : (start before after : Standing) (first old new : List Entry) (items more : List Next) (none dones others : List Done) → Advances start before first old items none dones → Advances before after old new more dones others → Advances start after first new (items ++ more) none others
+pub advances_on : (start before after : Standing) (first old new : List Entry) (items more : List Item) (none dones others : List Done) → Advances start before first old items none dones → Advances before after old new more dones others → Advances start after first new (items ++ more) none others
 advances_on start before after first old new items more none dones others one two = record {
   ready = two.ready;
   limits = two.limits ∙ one.limits;
@@ -176,11 +176,11 @@ advances_on start before after first old new items more none dones others one tw
   so_far = λ base run so_far. rw (← append_assoc run items more) (two.so_far base (run ++ items) (one.so_far base run so_far));
 }
 
-pub stops_on : (start before : Standing) (first old new : List Entry) (items more : List Next) (none dones others : List Done) → Advances start before first old items none dones → Stops before old new more dones others → Stops start first new (items ++ more) none others
+pub stops_on : (start before : Standing) (first old new : List Entry) (items more : List Item) (none dones others : List Done) → Advances start before first old items none dones → Stops before old new more dones others → Stops start first new (items ++ more) none others
 stops_on start before first old new items more none dones others one two base run so_far =
     rw (← append_assoc run items more, ← one.session, ← one.limits) (two base (run ++ items) (one.so_far base run so_far))
 
 -- no memory was found for a command
-pub runs_one_starved : (before after : Standing) (old new : List Entry) (item : Next) (dones more : List Done) (answer : Result (Unit {0}) NoMemory) → IsErr answer → Stops before old new (item ∷ []) dones more → RunsOne before after old new item dones more answer
+pub runs_one_starved : (before after : Standing) (old new : List Entry) (item : Item) (dones more : List Done) (answer : Result (Unit {0}) NoMemory) → IsErr answer → Stops before old new (item ∷ []) dones more → RunsOne before after old new item dones more answer
 runs_one_starved before after old new item dones more (Ok done) failed stops = absurd (cc)
 runs_one_starved before after old new item dones more (Err none) failed stops = stops

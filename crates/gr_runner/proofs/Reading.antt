@@ -7,10 +7,11 @@ use Rattle.std.specs.List.{AllByRecursion}
 use Rattle.gr_base.specs.declared.numbers.SessionNo.{SessionNo}
 use Rattle.gr_base.specs.declared.numbers.Limits.{Limits}
 use Rattle.gr_model.specs.declared.entry.Entry.{Entry}
-use Rattle.gr_session.specs.Commands.{commands}
+use Rattle.gr_outside.specs.Outside.{Told}
+use Rattle.gr_cmdline.specs.Commands.{commands, items_behind}
 use Rattle.gr_session.specs.Step.{Standing, opened_at}
-use Rattle.gr_session.specs.Stream.{Stream, left}
-use Rattle.gr_session.specs.declared.command.Next.{Next}
+use Rattle.gr_cmdline.specs.Stream.{Stream, items_left}
+use Rattle.gr_cmdline.specs.declared.command.Item.{Item}
 use Rattle.gr_session.specs.declared.session.Done.{Done}
 use Rattle.gr_runner.proofs.Progressing.{advances_none, advances_on, stops_here, stops_on}
 use Rattle.gr_runner.proofs.Lists.{all_weaker}
@@ -59,22 +60,22 @@ told_at_end (Some told) None given consumed at_end = absurd consumed
 told_at_end (Some told) (Some now) given consumed at_end = consumed ∙ ap (λ rest. given ++ rest) at_end ∙ append-nil given
 
 -- the bytes given so far are within the limit, the items that stand whole in them were run, and the reader has the rest
-pub record IsReading (limits : Limits) (told now : Option (List ℕ)) (faults faults_now : ℕ) (reaches reaches_now : ℕ → ℕ → Type 0) (total : ℕ) (reader : Stream) (start standing : Standing) (old new : List Entry) (dones : List Done) : Type 0 where
+pub record IsReading (limits : Limits) (told now : Told) (total : ℕ) (reader : Stream) (start standing : Standing) (old new : List Entry) (dones : List Done) : Type 0 where
   pub given : List ℕ
-  pub items : List Next
-  pub consumed : Consumes told now given
-  pub same_faults : faults_now ≡ faults
-  pub reached : (bytes count : ℕ) → reaches_now bytes count → reaches (length given + bytes) count
+  pub items : List Item
+  pub consumed : Consumes told.left now.left given
+  pub same_faults : now.faults ≡ told.faults
+  pub reached : (bytes count : ℕ) → now.reaches bytes count → told.reaches (length given + bytes) count
   pub total_is : total ≡ length given
   pub within : total ≤ limits.source
   pub going : reader.ended ≡ false
-  pub whole : (bytes : List ℕ) (ended : Bool) → commands (given ++ bytes) ended ≡ items ++ left reader bytes ended
-  pub drained : commands reader.bytes false ≡ []
+  pub whole : (bytes : List ℕ) (ended : Bool) → commands limits.line (given ++ bytes) ended ≡ items ++ items_left reader bytes ended
+  pub drained : items_behind reader.limit reader.pending reader.bytes false ≡ []
   pub advances : Advances start standing old new items [] dones
 
 -- a session ended for want of memory: its first items were run, and the others of its bytes are left
-starves : (limits : Limits) (told : Option (List ℕ)) (faults : ℕ) (reaches : ℕ → ℕ → Type 0) (start : Standing) (old new : List Entry) (dones : List Done) (bytes : List ℕ) (items others : List Next) → IsOpened limits start old → IsTold told bytes → commands bytes true ≡ items ++ others → Stops start old new items [] dones → RunsSource limits told faults reaches start.session old new dones Starved
-starves limits told faults reaches start old new dones bytes items others at source is stops =
+starves : (limits : Limits) (told : Told) (start : Standing) (old new : List Entry) (dones : List Done) (bytes : List ℕ) (items others : List Item) → IsOpened limits start old → IsTold told.left bytes → commands limits.line bytes true ≡ items ++ others → Stops start old new items [] dones → RunsSource limits told start.session old new dones Starved
+starves limits told start old new dones bytes items others at source is stops =
     let same : start.limits ≡ limits = ap (λ standing. standing.limits) at.opened in
     let stopped : IsStopped limits start.session old new items dones = rw same at (stops old [] (so_far_opened limits start old at)) in
     record {
@@ -86,8 +87,8 @@ starves limits told faults reaches start old new dones bytes items others at sou
     }
 
 -- a session ended otherwise: each item of what was read was run
-ends : (limits : Limits) (told : Option (List ℕ)) (faults : ℕ) (reaches : ℕ → ℕ → Type 0) (start after : Standing) (old new : List Entry) (dones : List Done) (items : List Next) (end : End) → IsOpened limits start old → Advances start after old new items [] dones → ReadTo limits.source told faults reaches end items → RunsSource limits told faults reaches start.session old new dones end
-ends limits told faults reaches start after old new dones items end at advances read =
+ends : (limits : Limits) (told : Told) (start after : Standing) (old new : List Entry) (dones : List Done) (items : List Item) (end : End) → IsOpened limits start old → Advances start after old new items [] dones → ReadTo limits told end items → RunsSource limits told start.session old new dones end
+ends limits told start after old new dones items end at advances read =
     let so_far : IsSoFar old new after items dones = advances.so_far old [] (so_far_opened limits start old at) in
     let behind = advances.ready.behind in
     let same : after.limits ≡ limits = advances.limits ∙ ap (λ standing. standing.limits) at.opened in
@@ -100,11 +101,11 @@ ends limits told faults reaches start after old new dones items end at advances 
     }
 
 -- before the first read
-pub reading_none : (limits : Limits) (told : Option (List ℕ)) (faults : ℕ) (reaches : ℕ → ℕ → Type 0) (reader : Stream) (start : Standing) (old : List Entry) (dones : List Done) → reader ≡ record { bytes = []; ended = false } → dones ≡ [] → IsOpened limits start old → IsReading limits told told faults faults reaches reaches 0 reader start start old old dones
-reading_none limits told faults reaches reader start old dones fresh none at = record {
+pub reading_none : (limits : Limits) (told : Told) (reader : Stream) (start : Standing) (old : List Entry) (dones : List Done) → reader ≡ record { limit = limits.line; pending = None; bytes = []; ended = false } → dones ≡ [] → IsOpened limits start old → IsReading limits told told 0 reader start start old old dones
+reading_none limits told reader start old dones fresh none at = record {
   given = [];
   items = [];
-  consumed = Consumes-nil told;
+  consumed = Consumes-nil told.left;
   same_faults = refl;
   reached = λ bytes count reached. rw zero-add reached;
   total_is = refl;
@@ -116,26 +117,26 @@ reading_none limits told faults reaches reader start old dones fresh none at = r
 }
 
 -- no memory was found before the first read
-pub ends_unread : (limits : Limits) (told : Option (List ℕ)) (faults : ℕ) (reaches : ℕ → ℕ → Type 0) (start : Standing) (old : List Entry) (dones : List Done) → dones ≡ [] → IsOpened limits start old → RunsSource limits told faults reaches start.session old old dones Starved
-ends_unread limits told faults reaches start old dones none at =
-    let bytes = told_bytes told told [] (Consumes-nil told) in
-    starves limits told faults reaches start old old dones bytes.0 [] (commands bytes.0 true) at bytes.1 refl
+pub ends_unread : (limits : Limits) (told : Told) (start : Standing) (old : List Entry) (dones : List Done) → dones ≡ [] → IsOpened limits start old → RunsSource limits told start.session old old dones Starved
+ends_unread limits told start old dones none at =
+    let bytes = told_bytes told.left told.left [] (Consumes-nil told.left) in
+    starves limits told start old old dones bytes.0 [] (commands limits.line bytes.0 true) at bytes.1 refl
     (rw none (stops_here start old [] [] (ready_opened limits start old [] refl at)))
 
-module _ (limits : Limits) (told now : Option (List ℕ)) (faults faults_now : ℕ) (reaches reaches_now : ℕ → ℕ → Type 0) (total : ℕ) (reader : Stream) (start standing : Standing) (old new : List Entry) (dones : List Done) (at : IsOpened limits start old) (reading : IsReading limits told now faults faults_now reaches reaches_now total reader start standing old new dones) where
+module _ (limits : Limits) (told now : Told) (total : ℕ) (reader : Stream) (start standing : Standing) (old new : List Entry) (dones : List Done) (at : IsOpened limits start old) (reading : IsReading limits told now total reader start standing old new dones) where
   -- the items that stand whole in the bytes given so far
-  items_so_far : reading.items ≡ commands reading.given false
+  items_so_far : reading.items ≡ commands limits.line reading.given false
   items_so_far =
-      let is : commands (reading.given ++ []) false ≡ reading.items ++ left reader [] false = reading.whole [] false in
-      let none : left reader [] false ≡ [] = rw (reading.going, append-nil) reading.drained in
+      let is : commands limits.line (reading.given ++ []) false ≡ reading.items ++ items_left reader [] false = reading.whole [] false in
+      let none : items_left reader [] false ≡ [] = rw (reading.going, append-nil) reading.drained in
       sym (rw (append-nil, none, append-nil) at is)
 
   -- a read failed
-  pub ends_failed : (count : ℕ) → faults_now < count → (reaches_now 0 count) → RunsSource limits told faults reaches start.session old new dones (Read count)
+  pub ends_failed : (count : ℕ) → now.faults < count → now.reaches 0 count → RunsSource limits told start.session old new dones (Read count)
   ends_failed count risen reached =
-      let bytes = told_bytes told now reading.given reading.consumed in
+      let bytes = told_bytes told.left now.left reading.given reading.consumed in
       let within = reading.within in
-      ends limits told faults reaches start standing old new dones reading.items (Read count) at reading.advances (record {
+      ends limits told start standing old new dones reading.items (Read count) at reading.advances (record {
         given = reading.given;
         rest = bytes.0;
         source = bytes.1;
@@ -145,76 +146,76 @@ module _ (limits : Limits) (told now : Option (List ℕ)) (faults faults_now : �
         items_are = items_so_far;
       })
 
-  module _ (after : Option (List ℕ)) (whole rest : Stream) (last : Standing) (newer : List Entry) (more : List Done) (closed : whole ≡ record { bytes = reader.bytes; ended = true }) where
-    left_closed : (bytes : List ℕ) (ended : Bool) → left whole bytes ended ≡ commands reader.bytes true
+  module _ (after : Option (List ℕ)) (whole rest : Stream) (last : Standing) (newer : List Entry) (more : List Done) (closed : whole ≡ record { limit = reader.limit; pending = reader.pending; bytes = reader.bytes; ended = true }) where
+    left_closed : (bytes : List ℕ) (ended : Bool) → items_left whole bytes ended ≡ items_behind reader.limit reader.pending reader.bytes true
     left_closed bytes ended = rw closed refl
 
-    whole_closed : commands reading.given true ≡ reading.items ++ commands reader.bytes true
+    whole_closed : commands limits.line reading.given true ≡ reading.items ++ items_behind reader.limit reader.pending reader.bytes true
     whole_closed =
-        let is : commands (reading.given ++ []) true ≡ reading.items ++ left reader [] true = reading.whole [] true in
-        let same : left reader [] true ≡ commands reader.bytes true = rw (reading.going, append-nil) refl in
+        let is : commands limits.line (reading.given ++ []) true ≡ reading.items ++ items_left reader [] true = reading.whole [] true in
+        let same : items_left reader [] true ≡ items_behind reader.limit reader.pending reader.bytes true = rw (reading.going, append-nil) refl in
         rw (append-nil, same) at is
 
     -- the source was read to its end
-    pub ends_finished : Consumes now after [] → IsAtEnd after → RunsAll whole rest [] standing last new newer dones more → RunsSource limits told faults reaches start.session old newer more Finished
+    pub ends_finished : Consumes now.left after [] → IsAtEnd after → RunsAll whole rest [] standing last new newer dones more → RunsSource limits told start.session old newer more Finished
     ends_finished consumed at_end all =
-        let none : left rest [] true ≡ [] = rw (all.same_end, closed) (rw (all.same_end, closed) at all.drained) in
-        let items : commands reader.bytes true ≡ all.items = sym (left_closed [] true) ∙ all.given [] true ∙ ap (λ others. all.items ++ others) none ∙ append-nil all.items in
-        let source = Consumes-trans told now after reading.given [] reading.consumed consumed in
-        ends limits told faults reaches start last old newer more (reading.items ++ all.items) Finished at
+        let none : items_left rest [] true ≡ [] = rw (all.same_end, closed) (rw (all.same_end, closed) at all.drained) in
+        let items : items_behind reader.limit reader.pending reader.bytes true ≡ all.items = sym (left_closed [] true) ∙ all.given [] true ∙ ap (λ others. all.items ++ others) none ∙ append-nil all.items in
+        let source = Consumes-trans told.left now.left after reading.given [] reading.consumed consumed in
+        ends limits told start last old newer more (reading.items ++ all.items) Finished at
         (advances_on start standing last old new newer reading.items all.items [] dones more reading.advances all.advances) (record {
           bytes = reading.given;
-          source = told_at_end told after reading.given (rw append-nil at source) at_end;
+          source = told_at_end told.left after reading.given (rw append-nil at source) at_end;
           within = omega (arith, reading.total_is, reading.within);
           items_are = rw items at (sym whole_closed);
         })
 
     -- no memory was found for what stood at the end
-    pub ends_starved_last : Consumes now after [] → IsAtEnd after → RunsSome whole [] standing new newer dones more → RunsSource limits told faults reaches start.session old newer more Starved
+    pub ends_starved_last : Consumes now.left after [] → IsAtEnd after → RunsSome whole [] standing new newer dones more → RunsSource limits told start.session old newer more Starved
     ends_starved_last consumed at_end some =
         let others = some.given [] true in
-        let source = Consumes-trans told now after reading.given [] reading.consumed consumed in
-        let is : commands reading.given true ≡ (reading.items ++ some.items) ++ others.0 =
+        let source = Consumes-trans told.left now.left after reading.given [] reading.consumed consumed in
+        let is : commands limits.line reading.given true ≡ (reading.items ++ some.items) ++ others.0 =
         whole_closed ∙ ap (λ items. reading.items ++ items) (sym (left_closed [] true) ∙ others.1) ∙ sym (append_assoc reading.items some.items others.0) in
-        starves limits told faults reaches start old newer more reading.given (reading.items ++ some.items) others.0 at (told_at_end told after reading.given (rw append-nil at source) at_end) is
+        starves limits told start old newer more reading.given (reading.items ++ some.items) others.0 at (told_at_end told.left after reading.given (rw append-nil at source) at_end) is
         (stops_on start standing old new newer reading.items some.items [] dones more reading.advances some.stops)
 
-  module _ (after : Option (List ℕ)) (rest : Stream) (last : Standing) (newer : List Entry) (more : List Done) (piece skipped : List ℕ) (consumed : Consumes now after (piece ++ skipped)) where
-    consumed_all : Consumes told after (reading.given ++ (piece ++ skipped))
-    consumed_all = Consumes-trans told now after reading.given (piece ++ skipped) reading.consumed consumed
+  module _ (after : Option (List ℕ)) (rest : Stream) (last : Standing) (newer : List Entry) (more : List Done) (piece skipped : List ℕ) (consumed : Consumes now.left after (piece ++ skipped)) where
+    consumed_all : Consumes told.left after (reading.given ++ (piece ++ skipped))
+    consumed_all = Consumes-trans told.left now.left after reading.given (piece ++ skipped) reading.consumed consumed
 
     regroup : (bytes : List ℕ) → (reading.given ++ (piece ++ skipped)) ++ bytes ≡ reading.given ++ (piece ++ (skipped ++ bytes))
     regroup bytes = append_assoc reading.given (piece ++ skipped) bytes ∙ ap (λ others. reading.given ++ others) (append_assoc piece skipped bytes)
 
     -- no memory was found for a piece
-    pub ends_starved : RunsSome reader piece standing new newer dones more → RunsSource limits told faults reaches start.session old newer more Starved
+    pub ends_starved : RunsSome reader piece standing new newer dones more → RunsSource limits told start.session old newer more Starved
     ends_starved some =
-        let bytes = told_bytes told after (reading.given ++ (piece ++ skipped)) consumed_all in
+        let bytes = told_bytes told.left after (reading.given ++ (piece ++ skipped)) consumed_all in
         let others = some.given (skipped ++ bytes.0) true in
-        let is : commands ((reading.given ++ (piece ++ skipped)) ++ bytes.0) true ≡ (reading.items ++ some.items) ++ others.0 =
-        ap (λ all. commands all true) (regroup bytes.0) ∙ reading.whole (piece ++ (skipped ++ bytes.0)) true ∙ ap (λ items. reading.items ++ items) others.1 ∙ sym (append_assoc reading.items some.items others.0) in
-        starves limits told faults reaches start old newer more ((reading.given ++ (piece ++ skipped)) ++ bytes.0) (reading.items ++ some.items) others.0 at bytes.1 is
+        let is : commands limits.line ((reading.given ++ (piece ++ skipped)) ++ bytes.0) true ≡ (reading.items ++ some.items) ++ others.0 =
+        ap (λ all. commands limits.line all true) (regroup bytes.0) ∙ reading.whole (piece ++ (skipped ++ bytes.0)) true ∙ ap (λ items. reading.items ++ items) others.1 ∙ sym (append_assoc reading.items some.items others.0) in
+        starves limits told start old newer more ((reading.given ++ (piece ++ skipped)) ++ bytes.0) (reading.items ++ some.items) others.0 at bytes.1 is
         (stops_on start standing old new newer reading.items some.items [] dones more reading.advances some.stops)
 
-    whole_further : (all : RunsAll reader rest piece standing last new newer dones more) → (bytes : List ℕ) (ended : Bool) → commands ((reading.given ++ piece) ++ bytes) ended ≡ (reading.items ++ all.items) ++ left rest bytes ended
+    whole_further : (all : RunsAll reader rest piece standing last new newer dones more) → (bytes : List ℕ) (ended : Bool) → commands limits.line ((reading.given ++ piece) ++ bytes) ended ≡ (reading.items ++ all.items) ++ items_left rest bytes ended
     whole_further all bytes ended =
-        ap (λ text. commands text ended) (append_assoc reading.given piece bytes) ∙ reading.whole (piece ++ bytes) ended ∙ ap (λ items. reading.items ++ items) (all.given bytes ended) ∙ sym (append_assoc reading.items all.items (left rest bytes ended))
+        ap (λ text. commands limits.line text ended) (append_assoc reading.given piece bytes) ∙ reading.whole (piece ++ bytes) ended ∙ ap (λ items. reading.items ++ items) (all.given bytes ended) ∙ sym (append_assoc reading.items all.items (items_left rest bytes ended))
 
-    drained_further : (all : RunsAll reader rest piece standing last new newer dones more) → commands rest.bytes false ≡ []
+    drained_further : (all : RunsAll reader rest piece standing last new newer dones more) → items_behind rest.limit rest.pending rest.bytes false ≡ []
     drained_further all = rw (all.same_end, reading.going) at all.drained
 
-    items_further : (all : RunsAll reader rest piece standing last new newer dones more) → reading.items ++ all.items ≡ commands (reading.given ++ piece) false
+    items_further : (all : RunsAll reader rest piece standing last new newer dones more) → reading.items ++ all.items ≡ commands limits.line (reading.given ++ piece) false
     items_further all =
-        let none : left rest [] false ≡ [] = rw (all.same_end, reading.going, append-nil) (drained_further all) in
+        let none : items_left rest [] false ≡ [] = rw (all.same_end, reading.going, append-nil) (drained_further all) in
         sym (rw (append-nil, none, append-nil) at (whole_further all [] false))
 
     -- the source gave more bytes than the limit
-    pub ends_too_long : (bytes : ℕ) → limits.source < bytes → bytes ≡ total + length (piece ++ skipped) → total + length piece ≡ limits.source → RunsAll reader rest piece standing last new newer dones more → RunsSource limits told faults reaches start.session old newer more (SourceTooLong bytes)
+    pub ends_too_long : (bytes : ℕ) → limits.source < bytes → bytes ≡ total + length (piece ++ skipped) → total + length piece ≡ limits.source → RunsAll reader rest piece standing last new newer dones more → RunsSource limits told start.session old newer more (SourceTooLong bytes)
     ends_too_long count above count_is full all =
-        let bytes = told_bytes told after (reading.given ++ (piece ++ skipped)) consumed_all in
+        let bytes = told_bytes told.left after (reading.given ++ (piece ++ skipped)) consumed_all in
         let first : (reading.given ++ (piece ++ skipped)) ++ bytes.0 ≡ (reading.given ++ piece) ++ (skipped ++ bytes.0) = regroup bytes.0 ∙ sym (append_assoc reading.given piece (skipped ++ bytes.0)) in
         let long : length (reading.given ++ piece) ≡ limits.source = simp length-append (omega (arith, reading.total_is)) in
-        ends limits told faults reaches start last old newer more (reading.items ++ all.items) (SourceTooLong count) at
+        ends limits told start last old newer more (reading.items ++ all.items) (SourceTooLong count) at
         (advances_on start standing last old new newer reading.items all.items [] dones more reading.advances all.advances) (record {
           bytes = (reading.given ++ (piece ++ skipped)) ++ bytes.0;
           source = bytes.1;
@@ -224,11 +225,11 @@ module _ (limits : Limits) (told now : Option (List ℕ)) (faults faults_now : �
         })
 
     -- a piece within the limit was read, and its items were run
-    pub reading_on : (faults_after : ℕ) (reaches_after : ℕ → ℕ → Type 0) (total_after : ℕ) → skipped ≡ [] → faults_after ≡ faults_now → ((bytes count : ℕ) → reaches_after bytes count → reaches_now (length piece + bytes) count) → total_after ≡ total + length piece → total_after ≤ limits.source → RunsAll reader rest piece standing last new newer dones more → IsReading limits told after faults faults_after reaches reaches_after total_after rest start last old newer more
-    reading_on faults_after reaches_after total_after none same_faults reached total_is within all = record {
+    pub reading_on : (later : Told) (total_after : ℕ) → later.left ≡ after → skipped ≡ [] → later.faults ≡ now.faults → ((bytes count : ℕ) → later.reaches bytes count → now.reaches (length piece + bytes) count) → total_after ≡ total + length piece → total_after ≤ limits.source → RunsAll reader rest piece standing last new newer dones more → IsReading limits told later total_after rest start last old newer more
+    reading_on later total_after after_is none same_faults reached total_is within all = record {
       given = reading.given ++ piece;
       items = reading.items ++ all.items;
-      consumed = rw (none, append-nil) at consumed_all;
+      consumed = rw after_is (rw (none, append-nil) at consumed_all);
       same_faults = same_faults ∙ reading.same_faults;
       reached = λ bytes count can. rw (length-append reading.given piece, add_assoc) (reading.reached (length piece + bytes) count (reached bytes count can));
       total_is = simp length-append (omega (arith, reading.total_is));
@@ -239,7 +240,7 @@ module _ (limits : Limits) (told now : Option (List ℕ)) (faults faults_now : �
       advances = advances_on start standing last old new newer reading.items all.items [] dones more reading.advances all.advances;
     }
 
-  module _ (after : Option (List ℕ)) (rest : Stream) (last : Standing) (newer : List Entry) (more : List Done) (count kept : ℕ) (room view : List ℕ) (same : view ≡ room) (fits : count ≤ length room) (kept_is : kept ≡ min count (limits.source - total)) (read : Consumes now after (take count room)) where
+  module _ (after : Option (List ℕ)) (rest : Stream) (last : Standing) (newer : List Entry) (more : List Done) (count kept : ℕ) (room view : List ℕ) (same : view ≡ room) (fits : count ≤ length room) (kept_is : kept ≡ min count (limits.source - total)) (read : Consumes now.left after (take count room)) where
     below : kept ≤ count
     below = omega arith
 
@@ -249,28 +250,28 @@ module _ (limits : Limits) (told now : Option (List ℕ)) (faults faults_now : �
     pieces : take kept view ++ drop kept (take count room) ≡ take count room
     pieces = rw same (ap (λ front. front ++ drop kept (take count room)) (sym (take-take kept count room below)) ∙ take-append-drop kept (take count room))
 
-    read_in_pieces : Consumes now after (take kept view ++ drop kept (take count room))
+    read_in_pieces : Consumes now.left after (take kept view ++ drop kept (take count room))
     read_in_pieces = rw pieces read
 
-    pub piece_starved : RunsSome reader (take kept view) standing new newer dones more → RunsSource limits told faults reaches start.session old newer more Starved
+    pub piece_starved : RunsSome reader (take kept view) standing new newer dones more → RunsSource limits told start.session old newer more Starved
     piece_starved some = ends_starved after rest last newer more (take kept view) (drop kept (take count room)) read_in_pieces some
 
-    pub piece_too_long : limits.source < total + count → RunsAll reader rest (take kept view) standing last new newer dones more → RunsSource limits told faults reaches start.session old newer more (SourceTooLong (total + count))
+    pub piece_too_long : limits.source < total + count → RunsAll reader rest (take kept view) standing last new newer dones more → RunsSource limits told start.session old newer more (SourceTooLong (total + count))
     piece_too_long above all =
         let within = reading.within in
         ends_too_long after rest last newer more (take kept view) (drop kept (take count room)) read_in_pieces (total + count) above
         (rw (pieces, length-take) (omega arith)) (rw long (omega arith)) all
 
-    pub piece_read : (faults_after : ℕ) (reaches_after : ℕ → ℕ → Type 0) → total + count ≤ limits.source → faults_after ≡ faults_now → ((bytes failed : ℕ) → reaches_after bytes failed → reaches_now (count + bytes) failed) → RunsAll reader rest (take kept view) standing last new newer dones more → IsReading limits told after faults faults_after reaches reaches_after (total + count) rest start last old newer more
-    piece_read faults_after reaches_after within same_faults reached all =
+    pub piece_read : (later : Told) → later.left ≡ after → total + count ≤ limits.source → later.faults ≡ now.faults → ((bytes failed : ℕ) → later.reaches bytes failed → now.reaches (count + bytes) failed) → RunsAll reader rest (take kept view) standing last new newer dones more → IsReading limits told later (total + count) rest start last old newer more
+    piece_read later after_is within same_faults reached all =
         let whole : kept ≡ count = omega arith in
         let length_is : length (take kept view) ≡ count = long ∙ whole in
-        reading_on after rest last newer more (take kept view) (drop kept (take count room)) read_in_pieces faults_after reaches_after (total + count)
+        reading_on after rest last newer more (take kept view) (drop kept (take count room)) read_in_pieces later (total + count) after_is
         (drop_all kept (take count room) (rw length-take (omega arith))) same_faults (λ bytes failed can. rw length_is (reached bytes failed can)) (rw length_is refl) within all
 
 -- the log of a session that was run
-pub serves : (limits : Limits) (told : Option (List ℕ)) (faults : ℕ) (reaches : ℕ → ℕ → Type 0) (number : SessionNo) (phase opened : ℕ) (old new : List Entry) (dones list : List Done) (end : End) → opened ≡ length old → list ≡ dones → RunsSource limits told faults reaches number.0 old new dones end → Serves limits told faults reaches number.0 phase old new (record { number = number; phase = phase; opened = opened; done = list; end = end })
-serves limits told faults reaches number phase opened old new dones list end at same runs = record {
+pub serves : (limits : Limits) (told : Told) (number : SessionNo) (phase opened : ℕ) (old new : List Entry) (dones list : List Done) (end : End) → opened ≡ length old → list ≡ dones → RunsSource limits told number.0 old new dones end → Serves limits told number.0 phase old new (record { number = number; phase = phase; opened = opened; done = list; end = end })
+serves limits told number phase opened old new dones list end at same runs = record {
   added = runs.grown.added;
   grows = runs.grown.grows;
   owned = rw same runs.grown.owned;

@@ -4,10 +4,10 @@ use Rattle.std.proofs.lemmas.Bool.{and_parts, and_right, eqb-true, ne_eqb}
 use Rattle.std.specs.List.{AllByRecursion}
 use Rattle.gr_base.specs.declared.numbers.Limits.{Limits}
 use Rattle.gr_model.specs.declared.entry.Entry.{Entry}
-use Rattle.gr_session.proofs.Owning.{Reply-more}
+use Rattle.gr_session.proofs.ReplyLemmas.{Reply-more}
 use Rattle.gr_session.specs.Own.{is_own}
 use Rattle.gr_session.specs.Reply.{IsStarved, Reply}
-use Rattle.gr_session.specs.declared.command.Next.{Next}
+use Rattle.gr_cmdline.specs.declared.command.Item.{Item}
 use Rattle.gr_session.specs.declared.session.Done.{Done}
 use Rattle.gr_runner.specs.Sessions.{AreAnswered, Climbs, Replies}
 use Rattle.gr_runner.specs.declared.report.End.{End}
@@ -25,7 +25,7 @@ all_later session command before [] below all = tt
 all_later session command before (entry ∷ entries) below all = (own_later session command before entry below all.0, all_later session command before entries below all.1)
 
 -- replies stand where the journal grows by entries of later commands
-pub Replies-more : (limits : Limits) (journal more : List Entry) (session command : ℕ) (items : List Next) (dones : List Done) → ((before : ℕ) → before < command + length dones → AllByRecursion (λ entry. is_own session before entry ≡ false) more) → Replies limits journal session command items dones Finished → Replies limits (journal ++ more) session command items dones Finished
+pub Replies-more : (limits : Limits) (journal more : List Entry) (session command : ℕ) (items : List Item) (dones : List Done) → ((before : ℕ) → before < command + length dones → AllByRecursion (λ entry. is_own session before entry ≡ false) more) → Replies limits journal session command items dones Finished → Replies limits (journal ++ more) session command items dones Finished
 Replies-more limits journal more session command items [] others replies = replies
 Replies-more limits journal more session command [] (done ∷ dones) others replies = absurd replies
 Replies-more limits journal more session command (item ∷ items) (done ∷ dones) others (inl (reply, later)) = inl (
@@ -35,7 +35,7 @@ Replies-more limits journal more session command (item ∷ items) (done ∷ done
 Replies-more limits journal more session command (item ∷ items) (done ∷ dones) others (inr (starved, last, end)) = absurd (cc)
 
 -- one more reply
-pub Replies-push : (limits : Limits) (journal : List Entry) (session command : ℕ) (items : List Next) (dones : List Done) (item : Next) (done : Done) → Replies limits journal session command items dones Finished → Reply limits journal session (command + length dones) item done → Replies limits journal session command (items ++ item ∷ []) (dones ++ done ∷ []) Finished
+pub Replies-push : (limits : Limits) (journal : List Entry) (session command : ℕ) (items : List Item) (dones : List Done) (item : Item) (done : Done) → Replies limits journal session command items dones Finished → Reply limits journal session (command + length dones) item done → Replies limits journal session command (items ++ item ∷ []) (dones ++ done ∷ []) Finished
 Replies-push limits journal session command [] [] item done replies reply = inl (rw add-zero at reply, refl)
 Replies-push limits journal session command (first ∷ items) [] item done replies reply = absurd (cc)
 Replies-push limits journal session command [] (d ∷ dones) item done replies reply = absurd replies
@@ -45,7 +45,7 @@ Replies-push limits journal session command (first ∷ items) (d ∷ dones) item
 Replies-push limits journal session command (first ∷ items) (d ∷ dones) item done (inr (starved, last, end)) reply = absurd (cc)
 
 -- the reply to want of memory is the last, whatever follows
-pub Replies-starve : (limits : Limits) (journal : List Entry) (session command : ℕ) (items : List Next) (dones : List Done) (item : Next) (done : Done) (rest : List Next) → Replies limits journal session command items dones Finished → IsStarved journal session (command + length dones) item done → Replies limits journal session command (items ++ item ∷ rest) (dones ++ done ∷ []) NoMemory
+pub Replies-starve : (limits : Limits) (journal : List Entry) (session command : ℕ) (items : List Item) (dones : List Done) (item : Item) (done : Done) (rest : List Item) → Replies limits journal session command items dones Finished → IsStarved journal session (command + length dones) item done → Replies limits journal session command (items ++ item ∷ rest) (dones ++ done ∷ []) NoMemory
 Replies-starve limits journal session command [] [] item done rest replies starved = inr (rw add-zero at starved, refl, refl)
 Replies-starve limits journal session command (first ∷ items) [] item done rest replies starved = absurd (cc)
 Replies-starve limits journal session command [] (d ∷ dones) item done rest replies starved = absurd replies
@@ -55,7 +55,7 @@ Replies-starve limits journal session command (first ∷ items) (d ∷ dones) it
 Replies-starve limits journal session command (first ∷ items) (d ∷ dones) item done rest (inr (none, last, end)) starved = absurd (cc)
 
 -- want of memory leaves what follows without replies
-pub Replies-stop : (limits : Limits) (journal : List Entry) (session command : ℕ) (items : List Next) (dones : List Done) (rest : List Next) → Replies limits journal session command items dones Finished → Replies limits journal session command (items ++ rest) dones NoMemory
+pub Replies-stop : (limits : Limits) (journal : List Entry) (session command : ℕ) (items : List Item) (dones : List Done) (rest : List Item) → Replies limits journal session command items dones Finished → Replies limits journal session command (items ++ rest) dones NoMemory
 Replies-stop limits journal session command items [] rest replies = tt
 Replies-stop limits journal session command [] (done ∷ dones) rest replies = absurd replies
 Replies-stop limits journal session command (item ∷ items) (done ∷ dones) rest (inl (reply, later)) = inl (reply, Replies-stop limits journal session (command + 1) items dones rest later)
@@ -68,7 +68,7 @@ answered (SourceTooLong bytes) = refl
 answered NoMemory = tt
 
 -- where each item has its reply, the end may be any
-pub Replies-end : (limits : Limits) (journal : List Entry) (session command : ℕ) (items : List Next) (dones : List Done) (end : End) → Replies limits journal session command items dones Finished → Replies limits journal session command items dones end
+pub Replies-end : (limits : Limits) (journal : List Entry) (session command : ℕ) (items : List Item) (dones : List Done) (end : End) → Replies limits journal session command items dones Finished → Replies limits journal session command items dones end
 Replies-end limits journal session command [] [] end replies = answered end
 Replies-end limits journal session command (item ∷ items) [] end replies = absurd (cc)
 Replies-end limits journal session command [] (done ∷ dones) end replies = absurd replies

@@ -4,17 +4,16 @@ use Rattle.std.specs.Result.{IsErr, is_err}
 use Rattle.gr_base.specs.declared.memory.NoMemory.{NoMemory}
 use Rattle.gr_model.specs.declared.entry.Entry.{Entry}
 use Rattle.gr_session.specs.Step.{Standing}
-use Rattle.gr_session.specs.Stream.{Gives, GivesItem, IsDrained, Stream, left}
-use Rattle.gr_session.specs.declared.command.Next.{Next}
-use Rattle.gr_session.specs.declared.command.Next.TheVariants.{Command as Asked, Bad, NeedMore, End, NoMemory as NoMoreMemory}
+use Rattle.gr_cmdline.specs.Stream.{GivesItem, IsDrained, Stream, items_left}
+use Rattle.gr_cmdline.specs.declared.command.Item.{Item}
 use Rattle.gr_session.specs.declared.session.Done.{Done}
 use Rattle.gr_runner.proofs.Progressing.{advances_none, advances_on, stops_here, stops_on}
 use Rattle.gr_runner.specs.Progress.{Advances, IsReady, RunsAll, RunsPiece, RunsSome, Stops}
 
 -- items of a stream were run, and the others are left
 pub record RunsSoFar (stream rest : Stream) (before after : Standing) (old new : List Entry) (dones more : List Done) : Type 0 where
-  pub items : List Next
-  pub given : (bytes : List ℕ) (ended : Bool) → left stream bytes ended ≡ items ++ left rest bytes ended
+  pub items : List Item
+  pub given : (bytes : List ℕ) (ended : Bool) → items_left stream bytes ended ≡ items ++ items_left rest bytes ended
   pub same_end : rest.ended ≡ stream.ended
   pub advances : Advances before after old new items dones more
 
@@ -40,44 +39,36 @@ runs_all stream rest last before after old new dones more ended so_far drained =
 pub runs_first : (stream rest : Stream) (before after : Standing) (old new : List Entry) (dones more : List Done) → RunsSoFar stream rest before after old new dones more → RunsSome stream [] before old new dones more
 runs_first stream rest before after old new dones more so_far = record {
   items = so_far.items ++ [];
-  given = λ bytes whole. (left rest bytes whole, rw append-nil (so_far.given bytes whole));
+  given = λ bytes whole. (items_left rest bytes whole, rw append-nil (so_far.given bytes whole));
   stops = stops_on before after old new new so_far.items [] dones more more so_far.advances (stops_here after new [] more so_far.advances.ready);
 }
 
 -- one more item was run
-pub runs_more : (stream rest last : Stream) (before after then : Standing) (old new newer : List Entry) (item : Next) (dones more most : List Done) → RunsSoFar stream rest before after old new dones more → GivesItem rest last item → Advances after then new newer (item ∷ []) more most → RunsSoFar stream last before then old newer dones most
+pub runs_more : (stream rest last : Stream) (before after then : Standing) (old new newer : List Entry) (item : Item) (dones more most : List Done) → RunsSoFar stream rest before after old new dones more → GivesItem rest last item → Advances after then new newer (item ∷ []) more most → RunsSoFar stream last before then old newer dones most
 runs_more stream rest last before after then old new newer item dones more most so_far gives one = record {
   items = so_far.items ++ item ∷ [];
-  given = λ bytes whole. so_far.given bytes whole ∙ ap (λ others. so_far.items ++ others) (gives.items bytes whole) ∙ sym (append_assoc so_far.items (item ∷ []) (left last bytes whole));
+  given = λ bytes whole. so_far.given bytes whole ∙ ap (λ others. so_far.items ++ others) (gives.items bytes whole) ∙ sym (append_assoc so_far.items (item ∷ []) (items_left last bytes whole));
   same_end = gives.ended ∙ so_far.same_end;
   advances = advances_on before after then old new newer so_far.items (item ∷ []) dones more most so_far.advances one;
 }
 
 -- no memory was found for one more item
-pub runs_until : (stream rest last : Stream) (before after : Standing) (old new newer : List Entry) (item : Next) (dones more most : List Done) → RunsSoFar stream rest before after old new dones more → GivesItem rest last item → Stops after new newer (item ∷ []) more most → RunsSome stream [] before old newer dones most
+pub runs_until : (stream rest last : Stream) (before after : Standing) (old new newer : List Entry) (item : Item) (dones more most : List Done) → RunsSoFar stream rest before after old new dones more → GivesItem rest last item → Stops after new newer (item ∷ []) more most → RunsSome stream [] before old newer dones most
 runs_until stream rest last before after old new newer item dones more most so_far gives one = record {
   items = so_far.items ++ item ∷ [];
-  given = λ bytes whole. (left last bytes whole, so_far.given bytes whole ∙ ap (λ others. so_far.items ++ others) (gives.items bytes whole) ∙ sym (append_assoc so_far.items (item ∷ []) (left last bytes whole)));
+  given = λ bytes whole. (items_left last bytes whole, so_far.given bytes whole ∙ ap (λ others. so_far.items ++ others) (gives.items bytes whole) ∙ sym (append_assoc so_far.items (item ∷ []) (items_left last bytes whole)));
   stops = stops_on before after old new newer so_far.items (item ∷ []) dones more most so_far.advances one;
 }
-
--- what is not a reason to stop is an item
-pub gives_item : (old new : Stream) (item : Next) → (item ≡ NeedMore → ⊥) → (item ≡ End → ⊥) → (item ≡ NoMoreMemory → ⊥) → Gives old new item → GivesItem old new item
-gives_item old new (Asked command) more end memory gives = gives
-gives_item old new (Bad fault) more end memory gives = gives
-gives_item old new NeedMore more end memory gives = absurd (more refl)
-gives_item old new End more end memory gives = absurd (end refl)
-gives_item old new NoMoreMemory more end memory gives = absurd (memory refl)
 
 pub runs_piece_starved : (stream rest : Stream) (piece : List ℕ) (before after : Standing) (old new : List Entry) (dones more : List Done) (answer : Result (Unit {0}) NoMemory) → IsErr answer → RunsSome stream piece before old new dones more → RunsPiece stream rest piece before after old new dones more answer
 runs_piece_starved stream rest piece before after old new dones more (Ok done) failed some = absurd (cc)
 runs_piece_starved stream rest piece before after old new dones more (Err none) failed some = some
 
-left_fed : (stream fed : Stream) (piece : List ℕ) → stream.ended ≡ false → fed ≡ record { bytes = stream.bytes ++ piece; ended = false } → (bytes : List ℕ) (ended : Bool) → left stream (piece ++ bytes) ended ≡ left fed bytes ended
+left_fed : (stream fed : Stream) (piece : List ℕ) → stream.ended ≡ false → fed ≡ record { limit = stream.limit; pending = stream.pending; bytes = stream.bytes ++ piece; ended = false } → (bytes : List ℕ) (ended : Bool) → items_left stream (piece ++ bytes) ended ≡ items_left fed bytes ended
 left_fed stream fed piece going same bytes ended = rw (going, same, append_assoc stream.bytes piece bytes) refl
 
 -- what was run of a stream that took a piece was run of the stream before and of the piece
-pub runs_fed : (stream fed rest : Stream) (piece : List ℕ) (before after : Standing) (old new : List Entry) (dones more : List Done) (answer : Result (Unit {0}) NoMemory) → stream.ended ≡ false → fed ≡ record { bytes = stream.bytes ++ piece; ended = false } → RunsPiece fed rest [] before after old new dones more answer → RunsPiece stream rest piece before after old new dones more answer
+pub runs_fed : (stream fed rest : Stream) (piece : List ℕ) (before after : Standing) (old new : List Entry) (dones more : List Done) (answer : Result (Unit {0}) NoMemory) → stream.ended ≡ false → fed ≡ record { limit = stream.limit; pending = stream.pending; bytes = stream.bytes ++ piece; ended = false } → RunsPiece fed rest [] before after old new dones more answer → RunsPiece stream rest piece before after old new dones more answer
 runs_fed stream fed rest piece before after old new dones more (Ok done) going same runs = record {
   items = runs.items;
   given = λ bytes ended. left_fed stream fed piece going same bytes ended ∙ runs.given bytes ended;
@@ -95,7 +86,7 @@ runs_fed stream fed rest piece before after old new dones more (Err none) going 
 pub runs_unfed : (stream : Stream) (piece : List ℕ) (standing : Standing) (journal : List Entry) (dones : List Done) → IsReady standing journal dones → RunsSome stream piece standing journal journal dones dones
 runs_unfed stream piece standing journal dones ready = record {
   items = [];
-  given = λ bytes ended. (left stream (piece ++ bytes) ended, refl);
+  given = λ bytes ended. (items_left stream (piece ++ bytes) ended, refl);
   stops = stops_here standing journal [] dones ready;
 }
 

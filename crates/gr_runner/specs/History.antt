@@ -1,9 +1,10 @@
 -- The sessions of the phases that ran, and their one journal.
-use Rattle.std.specs.Prelude.{ℕ, ◌≡◌, ◌+◌, ◌<◌, ◌≤◌, ◌++◌, Option, Some, List, [], ◌∷◌, length, map, slice_get, Contains}
+use Rattle.std.specs.Prelude.{ℕ, ◌≡◌, ◌+◌, ◌<◌, ◌≤◌, ◌++◌, Some, List, [], ◌∷◌, length, map, slice_get, Contains}
 use Rattle.std.specs.List.{AllByRecursion, flat_map}
 use Rattle.gr_base.specs.declared.numbers.Limits.{Limits}
 use Rattle.gr_model.specs.Accepted.{IsAccepted}
 use Rattle.gr_model.specs.declared.entry.Entry.{Entry}
+use Rattle.gr_outside.specs.Outside.{Told}
 use Rattle.gr_runner.specs.Sessions.{Holds}
 use Rattle.gr_runner.specs.declared.report.SessionLog.{SessionLog}
 
@@ -44,17 +45,17 @@ AreInPhases journal logs = (earlier later : SessionLog) → Contains logs earlie
     → earlier.phase < later.phase → IsBefore journal earlier later
 
 -- each source's session holds
-abbrev pub AllHold : {S : Type 0} → (S → Option (List ℕ)) → (S → ℕ) → (S → ℕ → ℕ → Type 0) → Limits → List Entry → List S → List SessionLog → Type 0
-AllHold told faults reaches limits journal [] [] = Unit {0}
-AllHold told faults reaches limits journal [] (log ∷ logs) = ⊥
-AllHold told faults reaches limits journal (source ∷ sources) [] = ⊥
-AllHold told faults reaches limits journal (source ∷ sources) (log ∷ logs) =
-    Holds limits (told source) (faults source) (reaches source) journal log × AllHold told faults reaches limits journal sources logs
+abbrev pub AllHold : {S : Type 0} → (S → Told) → Limits → List Entry → List S → List SessionLog → Type 0
+AllHold told limits journal [] [] = Unit {0}
+AllHold told limits journal [] (log ∷ logs) = ⊥
+AllHold told limits journal (source ∷ sources) [] = ⊥
+AllHold told limits journal (source ∷ sources) (log ∷ logs) =
+    Holds limits (told source) journal log × AllHold told limits journal sources logs
 
--- the phases that ran: what each source told, its count of faults and what it can reach are as the run began
-pub record History {S : Type 0} (told : S → Option (List ℕ)) (faults : S → ℕ) (reaches : S → ℕ → ℕ → Type 0) (limits : Limits) (phases : List (List S)) (journal : List Entry) (logs : List SessionLog) : Type 0 where
+-- the phases that ran: each source as it told of itself when the run began
+pub record History {S : Type 0} (told : S → Told) (limits : Limits) (phases : List (List S)) (journal : List Entry) (logs : List SessionLog) : Type 0 where
   pub accepted : IsAccepted limits journal
   pub labels : map label_of logs ≡ labels_of 1 1 phases
   pub owners : AllByRecursion (IsOwned logs) journal
   pub in_phases : AreInPhases journal logs
-  pub sessions : AllHold told faults reaches limits journal (sources_of phases) logs
+  pub sessions : AllHold told limits journal (sources_of phases) logs

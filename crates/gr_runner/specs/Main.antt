@@ -1,6 +1,7 @@
 -- What the top call does with its words.
 use Rattle.std.specs.Prelude.{ℕ, ◌≡◌, ◌==◌, ◌<◌, if◌then◌else◌, Option, Some, None, List, [], ◌∷◌, Contains}
 use Rattle.gr_base.specs.declared.numbers.Limits.{Limits}
+use Rattle.gr_outside.specs.Outside.{FilesTold, Taken, as_opened}
 use Rattle.gr_runner.specs.History.{sources_of}
 use Rattle.gr_runner.specs.Reported.{journal_of}
 use Rattle.gr_runner.specs.Run.{Run}
@@ -27,16 +28,16 @@ pub record IsUsage {F K : Type 0} (report : Report) (files files_after : F) (sin
   pub sink_same : sink_after ≡ sink
 
 -- an open of a name that can fail has failed: nothing was run or written
-pub record IsNotOpened {K : Type 0} (can_fail : List ℕ → Type 0) (phases : List (List (List ℕ))) (report : Report) (faults faults_after : ℕ) (sink sink_after : K) : Type 0 where
+pub record IsNotOpened {K : Type 0} (files files_after : FilesTold) (phases : List (List (List ℕ))) (report : Report) (sink sink_after : K) : Type 0 where
   pub status : report.status ≡ Open
   pub nothing : IsNothingRun report
-  pub risen : faults < faults_after
+  pub risen : files.faults < files_after.faults
   pub name : List ℕ
   pub named : Contains (sources_of phases) name
-  pub failing : can_fail name
+  pub failing : (files.named name).can_fail
   pub sink_same : sink_after ≡ sink
 
--- each file was opened, and they were run: what each name tells, and that its file began without faults
-pub record IsRun (told : List ℕ → Option (List ℕ)) (reaches : List ℕ → ℕ → ℕ → Type 0) (limits : Limits) (phases : List (List (List ℕ))) (report : Report) (faults faults_after : ℕ) (before after : Option (List ℕ)) (write_failed : Type 0) : Type 0 where
-  pub opened : faults_after ≡ faults
-  pub run : Run told (λ _. 0) reaches limits phases report before after write_failed
+-- each file was opened, and they were run as the names tell of them
+pub record IsRun (files files_after : FilesTold) (limits : Limits) (phases : List (List (List ℕ))) (report : Report) (before after : Taken) : Type 0 where
+  pub opened : files_after.faults ≡ files.faults
+  pub run : Run (λ name. as_opened (files.named name)) limits phases report before after

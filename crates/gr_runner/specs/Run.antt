@@ -3,8 +3,10 @@ use Rattle.std.specs.Prelude.{ℕ, ◌≡◌, ◌≢◌, ◌<◌, ◌≤◌, ◌
 use Rattle.std.specs.Io.KnownBytes.{Appends}
 use Rattle.std.specs.List.{AllByRecursion, flat_map}
 use Rattle.gr_base.specs.declared.numbers.Limits.{Limits}
+use Rattle.gr_outside.specs.Outside.{Taken, Told}
 use Rattle.gr_runner.specs.History.{History}
 use Rattle.gr_runner.specs.Reported.{journal_of}
+use Rattle.gr_runner.specs.Written.{HasFailed}
 use Rattle.gr_runner.specs.declared.report.End.{End}
 use Rattle.gr_runner.specs.declared.report.End.TheVariants.{Finished, Read, SourceTooLong, NoMemory as NoMemoryEnd}
 use Rattle.gr_runner.specs.declared.report.Report.{Report}
@@ -55,7 +57,7 @@ abbrev pub texts_of : List SessionLog → List ℕ
 texts_of logs = flat_map (λ log. flat_map (λ done. done.text) log.done) logs
 
 -- a write failed in the last phase that started: the texts of the phases before it were taken whole, and a first part of its own
-pub record IsWrittenInPart (started : ℕ) (logs : List SessionLog) (before after : Option (List ℕ)) : Type 0 where
+pub record IsWrittenInPart (started : ℕ) (logs : List SessionLog) (before after : Taken) : Type 0 where
   pub earlier : List SessionLog
   pub last : List SessionLog
   pub split : logs ≡ earlier ++ last
@@ -64,23 +66,23 @@ pub record IsWrittenInPart (started : ℕ) (logs : List SessionLog) (before afte
   pub piece : List ℕ
   pub rest : List ℕ
   pub text : texts_of last ≡ piece ++ rest
-  pub taken : Appends before after (texts_of earlier ++ piece)
+  pub taken : Appends before.bytes after.bytes (texts_of earlier ++ piece)
 
 -- what the sink took: all texts, or where a write failed a first part of them
-abbrev pub IsWritten : Status → ℕ → List SessionLog → Option (List ℕ) → Option (List ℕ) → Type 0
+abbrev pub IsWritten : Status → ℕ → List SessionLog → Taken → Taken → Type 0
 IsWritten Write started logs before after = IsWrittenInPart started logs before after
-IsWritten Ok started logs before after = Appends before after (texts_of logs)
-IsWritten Usage started logs before after = Appends before after (texts_of logs)
-IsWritten Open started logs before after = Appends before after (texts_of logs)
-IsWritten ReadFailed started logs before after = Appends before after (texts_of logs)
-IsWritten NoMemory started logs before after = Appends before after (texts_of logs)
-IsWritten TooLong started logs before after = Appends before after (texts_of logs)
+IsWritten Ok started logs before after = Appends before.bytes after.bytes (texts_of logs)
+IsWritten Usage started logs before after = Appends before.bytes after.bytes (texts_of logs)
+IsWritten Open started logs before after = Appends before.bytes after.bytes (texts_of logs)
+IsWritten ReadFailed started logs before after = Appends before.bytes after.bytes (texts_of logs)
+IsWritten NoMemory started logs before after = Appends before.bytes after.bytes (texts_of logs)
+IsWritten TooLong started logs before after = Appends before.bytes after.bytes (texts_of logs)
 
 -- a run: the first phases ran, whole; where a session is not Finished its phase is the last that ran; and the status and what was written say so
-pub record Run {S : Type 0} (told : S → Option (List ℕ)) (faults : S → ℕ) (reaches : S → ℕ → ℕ → Type 0) (limits : Limits) (phases : List (List S)) (report : Report) (before after : Option (List ℕ)) (write_failed : Type 0) : Type 0 where
+pub record Run {S : Type 0} (told : S → Told) (limits : Limits) (phases : List (List S)) (report : Report) (before after : Taken) : Type 0 where
   pub started : ℕ
   pub among : started ≤ length phases
-  pub history : History told faults reaches limits (take started phases) (journal_of report) report.sessions
+  pub history : History told limits (take started phases) (journal_of report) report.sessions
   pub last : (log : SessionLog) → Contains report.sessions log → log.end ≢ Finished → log.phase ≡ started
-  pub cause : IsCause phases started report.sessions write_failed report.status
+  pub cause : IsCause phases started report.sessions (HasFailed before after) report.status
   pub written : IsWritten report.status started report.sessions before after

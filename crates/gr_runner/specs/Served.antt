@@ -1,9 +1,10 @@
 -- What running one source's session does to the journal.
-use Rattle.std.specs.Prelude.{ℕ, ◌≡◌, ◌<◌, ◌++◌, Option, List, length}
+use Rattle.std.specs.Prelude.{ℕ, ◌≡◌, ◌<◌, ◌++◌, List, length}
 use Rattle.std.specs.List.{AllByRecursion}
 use Rattle.gr_base.specs.declared.numbers.Limits.{Limits}
 use Rattle.gr_model.specs.Accepted.{IsAccepted}
 use Rattle.gr_model.specs.declared.entry.Entry.{Entry}
+use Rattle.gr_outside.specs.Outside.{Told}
 use Rattle.gr_runner.specs.Sessions.{Holds}
 use Rattle.gr_runner.specs.declared.report.SessionLog.{SessionLog}
 
@@ -13,7 +14,7 @@ pub record IsOfSession (number commands : ℕ) (entry : Entry) : Type 0 where
   pub command : entry.command < commands
 
 -- the journal grew by this session's entries alone, of commands that have their replies, and its log holds there
-pub record Serves (limits : Limits) (told : Option (List ℕ)) (faults : ℕ) (reaches : ℕ → ℕ → Type 0) (number phase : ℕ) (old new : List Entry) (log : SessionLog) : Type 0 where
+pub record Serves (limits : Limits) (told : Told) (number phase : ℕ) (old new : List Entry) (log : SessionLog) : Type 0 where
   pub added : List Entry
   pub grows : new ≡ old ++ added
   pub owned : AllByRecursion (IsOfSession number (length log.done)) added
@@ -21,4 +22,4 @@ pub record Serves (limits : Limits) (told : Option (List ℕ)) (faults : ℕ) (r
   pub number_is : log.number.0 ≡ number
   pub phase_is : log.phase ≡ phase
   pub opened_is : log.opened ≡ length old
-  pub holds : Holds limits told faults reaches new log
+  pub holds : Holds limits told new log

@@ -1,9 +1,10 @@
 -- What a session's log means, read off the whole journal.
-use Rattle.std.specs.Prelude.{ℕ, ◌≡◌, ◌+◌, ◌≤◌, ◌⊎◌, Option, List, [], ◌∷◌, length}
+use Rattle.std.specs.Prelude.{ℕ, ◌≡◌, ◌+◌, ◌≤◌, ◌⊎◌, List, [], ◌∷◌, length}
 use Rattle.gr_base.specs.declared.numbers.Limits.{Limits}
 use Rattle.gr_model.specs.declared.entry.Entry.{Entry}
+use Rattle.gr_outside.specs.Outside.{Told}
 use Rattle.gr_session.specs.Reply.{IsStarved, Reply}
-use Rattle.gr_session.specs.declared.command.Next.{Next}
+use Rattle.gr_cmdline.specs.declared.command.Item.{Item}
 use Rattle.gr_session.specs.declared.session.Done.{Done}
 use Rattle.gr_runner.specs.Sources.{ReadTo}
 use Rattle.gr_runner.specs.declared.report.End.{End}
@@ -11,14 +12,14 @@ use Rattle.gr_runner.specs.declared.report.End.TheVariants.{Finished, Read, Sour
 use Rattle.gr_runner.specs.declared.report.SessionLog.{SessionLog}
 
 -- where a session ended for want of memory items may have no reply; else none is left
-abbrev pub AreAnswered : List Next → End → Type 0
+abbrev pub AreAnswered : List Item → End → Type 0
 AreAnswered items Finished = items ≡ []
 AreAnswered items (Read faults) = items ≡ []
 AreAnswered items (SourceTooLong bytes) = items ≡ []
 AreAnswered items NoMemory = Unit {0}
 
 -- each reply holds for its item, in order; the reply to want of memory stands only last, and then that is the end
-abbrev pub Replies : Limits → List Entry → ℕ → ℕ → List Next → List Done → End → Type 0
+abbrev pub Replies : Limits → List Entry → ℕ → ℕ → List Item → List Done → End → Type 0
 Replies limits journal session command items [] end = AreAnswered items end
 Replies limits journal session command [] (done ∷ more) end = ⊥
 Replies limits journal session command (item ∷ items) (done ∷ more) end =
@@ -31,8 +32,8 @@ Climbs low [] top = low ≤ top
 Climbs low (done ∷ more) top = (low ≤ done.from) × (done.from ≤ done.mark) × Climbs done.mark more top
 
 -- a session's log holds: its source was read so far, its commands have their replies, and its places climb
-pub record Holds (limits : Limits) (told : Option (List ℕ)) (faults : ℕ) (reaches : ℕ → ℕ → Type 0) (journal : List Entry) (log : SessionLog) : Type 0 where
-  pub items : List Next
-  pub read : ReadTo limits.source told faults reaches log.end items
+pub record Holds (limits : Limits) (told : Told) (journal : List Entry) (log : SessionLog) : Type 0 where
+  pub items : List Item
+  pub read : ReadTo limits told log.end items
   pub replies : Replies limits journal log.number.0 0 items log.done log.end
   pub climbs : Climbs log.opened log.done (length journal)

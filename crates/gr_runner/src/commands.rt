@@ -1,16 +1,18 @@
 // One session: its source is read, and its commands are run.
 ghost use Rattle.std.specs.Prelude.{◌≡◌, ◌<◌, ◌≤◌, ◌^◌, ◌-◌, [], false, length, min, IfOk};
 ghost use Rattle.std.specs.List.{AllByRecursion};
-ghost use Rattle.gr_session.specs.Commands.{IsItem};
+ghost use Rattle.gr_base.specs.Limits.{IsInRange};
+ghost use Rattle.gr_cmdline.specs.Commands.{IsItem};
 ghost use Rattle.gr_session.specs.Step.{opened_at};
 ghost use Rattle.gr_runner.specs.Progress.{IsReady, RunsOne, RunsPiece, RunsSource};
 ghost use Rattle.gr_runner.specs.Served.{Serves};
 
 use super::{Dones, End, SessionLog};
 use gr_base::{Limits, NoMemory, SessionNo};
+use gr_cmdline::{Item, Next, Reader};
 use gr_outside::{Failed, Source};
 use gr_publish::Solo;
-use gr_session::{Done, Next, Reader, Session, step_solo};
+use gr_session::{Done, Session, step_solo};
 use std::alloc::Global;
 
 // How many bytes are asked of a source at once.
@@ -26,11 +28,11 @@ pub(crate) fn run_session<S: Source + Drop>(
     source: S,
 ) -> SessionLog
     requires limits { limits ≡ solo.old.limits }
-    requires limit { limits.source ≤ 2 ^ 28 }
-    requires countable { S.faults source < 2 ^ 64 - 1 }
+    requires range { IsInRange limits }
+    requires countable { (S.told source).faults < 2 ^ 64 - 1 }
     requires first { AllByRecursion (λ entry. entry.session.0 < number.0) solo.old.journal }
     ensures limits { solo.new.limits ≡ solo.old.limits }
-    ensures serves { Serves limits (S.left source) (S.faults source) (S.reaches source) number.0 phase solo.old.journal solo.new.journal result }
+    ensures serves { Serves limits (S.told source) number.0 phase solo.old.journal solo.new.journal result }
 {
     let opened = solo.pin().journal().len();
     let mut done = Vec::new(alloc);
@@ -57,18 +59,18 @@ fn run_source<S: Source + Drop>(
     done: &mut Vec<Done>,
 ) -> End
     requires limits { limits ≡ solo.old.limits }
-    requires limit { limits.source ≤ 2 ^ 28 }
-    requires countable { S.faults source < 2 ^ 64 - 1 }
+    requires range { IsInRange limits }
+    requires countable { (S.told source).faults < 2 ^ 64 - 1 }
     requires opened { session ≡ opened_at limits session.session (length solo.old.journal) }
     requires first { AllByRecursion (λ entry. entry.session.0 < session.session) solo.old.journal }
     requires none { done.old.items ≡ [] }
     ensures limits { solo.new.limits ≡ solo.old.limits }
-    ensures runs { RunsSource limits (S.left source) (S.faults source) (S.reaches source) session.session solo.old.journal solo.new.journal done.new.items result }
+    ensures runs { RunsSource limits (S.told source) session.session solo.old.journal solo.new.journal done.new.items result }
 {
     let Ok(mut room) = piece(alloc) else {
         return End::NoMemory;
     };
-    let mut reader = Reader::new(alloc);
+    let mut reader = Reader::new(alloc, limits);
     let mut total: u64 = 0;
     loop {
         match source.read(&mut room) {
@@ -146,7 +148,7 @@ fn run_commands(
         match reader.next_command(alloc) {
             Next::NeedMore | Next::End => return Ok(()),
             Next::NoMemory => return Err(NoMemory),
-            item => run_command(alloc, session, solo, item, done)?,
+            Next::Item(item) => run_command(alloc, session, solo, item, done)?,
         }
     }
 }
@@ -156,7 +158,7 @@ fn run_command(
     alloc: Global,
     session: &mut Session,
     solo: &mut Solo,
-    item: Next,
+    item: Item,
     done: &mut Vec<Done>,
 ) -> Result<(), NoMemory>
     requires item { IsItem item }

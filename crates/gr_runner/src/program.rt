@@ -17,15 +17,13 @@ pub fn main_call<F: Files, K: Sink>(
     files: &mut F,
     sink: &mut K,
 ) -> Report
-    requires files_countable { F.faults files.old < 2 ^ 64 - 1 }
-    requires sink_countable { K.faults sink.old < 2 ^ 64 - 1 }
+    requires files_countable { (F.told files.old).faults < 2 ^ 64 - 1 }
+    requires sink_countable { (K.taken sink.old).faults < 2 ^ 64 - 1 }
     ensures usage { phases_named (map string_bytes words.now) ≡ None → IsUsage result files.old files.new sink.old sink.new }
     ensures run { IfSome (phases_named (map string_bytes words.now)) (λ phases.
-        IsNotOpened (F.can_fail files.old) phases result (F.faults files.old) (F.faults files.new) sink.old sink.new
-        ⊎ IsRun (F.bytes_of files.old) (F.pairs_of files.old) default_limits phases result
-        (F.faults files.old) (F.faults files.new) (K.taken sink.old) (K.taken sink.new) (K.faults sink.old < K.faults sink.new)) }
-    ensures complete { IfSome (phases_named (map string_bytes words.now)) (IsCompleteMain (F.bytes_of files.old) (F.pairs_of files.old)
-        (F.can_fail files.old) default_limits result (K.faults sink.old < K.faults sink.new)) }
+        IsNotOpened (F.told files.old) (F.told files.new) phases result sink.old sink.new
+        ⊎ IsRun (F.told files.old) (F.told files.new) default_limits phases result (K.taken sink.old) (K.taken sink.new)) }
+    ensures complete { IfSome (phases_named (map string_bytes words.now)) (IsCompleteMain (F.told files.old) default_limits result (K.taken sink.old) (K.taken sink.new)) }
 {
     run_words(alloc, words, files, sink)
 }
@@ -37,13 +35,12 @@ fn run_words<F: Files, K: Sink>(
     files: &mut F,
     sink: &mut K,
 ) -> Report
-    requires files_countable { F.faults files.old < 2 ^ 64 - 1 }
-    requires sink_countable { K.faults sink.old < 2 ^ 64 - 1 }
+    requires files_countable { (F.told files.old).faults < 2 ^ 64 - 1 }
+    requires sink_countable { (K.taken sink.old).faults < 2 ^ 64 - 1 }
     ensures usage { phases_named (map string_bytes words.now) ≡ None → IsUsage result files.old files.new sink.old sink.new }
     ensures run { IfSome (phases_named (map string_bytes words.now)) (λ phases.
-        IsNotOpened (F.can_fail files.old) phases result (F.faults files.old) (F.faults files.new) sink.old sink.new
-        ⊎ IsRun (F.bytes_of files.old) (F.pairs_of files.old) default_limits phases result
-        (F.faults files.old) (F.faults files.new) (K.taken sink.old) (K.taken sink.new) (K.faults sink.old < K.faults sink.new)) }
+        IsNotOpened (F.told files.old) (F.told files.new) phases result sink.old sink.new
+        ⊎ IsRun (F.told files.old) (F.told files.new) default_limits phases result (K.taken sink.old) (K.taken sink.new)) }
 {
     let Some(name) = file_named(words) else {
         return nothing_run(alloc, Status::Usage);
@@ -68,10 +65,10 @@ fn file_named(words: &[String]) -> Option<&str>
 
 // Runs one file, in one phase.
 fn run_file<S: Source + Drop, K: Sink>(alloc: Global, file: S, sink: &mut K) -> Report
-    requires fresh { S.faults file ≡ 0 }
-    requires sink_countable { K.faults sink.old < 2 ^ 64 - 1 }
-    ensures { Run S.left S.faults S.reaches default_limits ((file ∷ []) ∷ []) result
-        (K.taken sink.old) (K.taken sink.new) (K.faults sink.old < K.faults sink.new) }
+    requires fresh { (S.told file).faults ≡ 0 }
+    requires sink_countable { (K.taken sink.old).faults < 2 ^ 64 - 1 }
+    ensures { Run S.told default_limits ((file ∷ []) ∷ []) result
+        (K.taken sink.old) (K.taken sink.new) }
 {
     match one_phase(alloc, file) {
         Ok(phases) => run_serial(alloc, Limits::default(), phases, sink),

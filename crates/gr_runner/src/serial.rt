@@ -30,12 +30,12 @@ pub fn run_serial<S: Source + Drop, K: Sink>(
     requires limits { IsInRange limits }
     requires phases { length phases.items < 2 ^ 31 }
     requires sources { length (sources_of (map (λ sources. sources.items) phases.items)) < 2 ^ 31 }
-    requires sources_countable { AllByRecursion (λ source. S.faults source < 2 ^ 64 - 1) (sources_of (map (λ sources. sources.items) phases.items)) }
-    requires sink_countable { K.faults sink.old < 2 ^ 64 - 1 }
-    ensures run { Run S.left S.faults S.reaches limits (map (λ sources. sources.items) phases.items) result
-        (K.taken sink.old) (K.taken sink.new) (K.faults sink.old < K.faults sink.new) }
-    ensures complete { IsCompleteRun S.left S.faults S.reaches limits (map (λ sources. sources.items) phases.items) result
-        (K.faults sink.old < K.faults sink.new) }
+    requires sources_countable { AllByRecursion (λ source. (S.told source).faults < 2 ^ 64 - 1) (sources_of (map (λ sources. sources.items) phases.items)) }
+    requires sink_countable { (K.taken sink.old).faults < 2 ^ 64 - 1 }
+    ensures run { Run S.told limits (map (λ sources. sources.items) phases.items) result
+        (K.taken sink.old) (K.taken sink.new) }
+    ensures complete { IsCompleteRun S.told limits (map (λ sources. sources.items) phases.items) result
+        (K.taken sink.old) (K.taken sink.new) }
 {
     run_all(alloc, limits, phases, sink)
 }
@@ -50,10 +50,10 @@ fn run_all<S: Source + Drop, K: Sink>(
     requires limits { IsInRange limits }
     requires phases { length phases.items < 2 ^ 31 }
     requires sources { length (sources_of (map (λ sources. sources.items) phases.items)) < 2 ^ 31 }
-    requires sources_countable { AllByRecursion (λ source. S.faults source < 2 ^ 64 - 1) (sources_of (map (λ sources. sources.items) phases.items)) }
-    requires sink_countable { K.faults sink.old < 2 ^ 64 - 1 }
-    ensures { Run S.left S.faults S.reaches limits (map (λ sources. sources.items) phases.items) result
-        (K.taken sink.old) (K.taken sink.new) (K.faults sink.old < K.faults sink.new) }
+    requires sources_countable { AllByRecursion (λ source. (S.told source).faults < 2 ^ 64 - 1) (sources_of (map (λ sources. sources.items) phases.items)) }
+    requires sink_countable { (K.taken sink.old).faults < 2 ^ 64 - 1 }
+    ensures { Run S.told limits (map (λ sources. sources.items) phases.items) result
+        (K.taken sink.old) (K.taken sink.new) }
 {
     let Ok(mut solo) = Solo::new(alloc, limits) else {
         return report(Status::NoMemory, None, Vec::new(alloc));
@@ -98,18 +98,18 @@ fn run_phases<S: Source + Drop, K: Sink>(
     sink: &mut K,
 ) -> Status
     requires limits { limits ≡ solo.old.limits }
-    requires limit { limits.source ≤ 2 ^ 28 }
+    requires range { IsInRange limits }
     requires phases { length phases.items < 2 ^ 31 }
     requires sources { length (sources_of (map (λ sources. sources.items) phases.items)) < 2 ^ 31 }
-    requires sources_countable { AllByRecursion (λ source. S.faults source < 2 ^ 64 - 1) (sources_of (map (λ sources. sources.items) phases.items)) }
-    requires sink_countable { K.faults sink.old < 2 ^ 64 - 1 }
+    requires sources_countable { AllByRecursion (λ source. (S.told source).faults < 2 ^ 64 - 1) (sources_of (map (λ sources. sources.items) phases.items)) }
+    requires sink_countable { (K.taken sink.old).faults < 2 ^ 64 - 1 }
     requires no_entries { solo.old.journal ≡ [] }
     requires no_logs { logs.old.items ≡ [] }
     requires room { length (sources_of (map (λ sources. sources.items) phases.items)) ≤ vec_capacity logs.old }
     ensures { (root : Arc Rooted Global) → (arc_value root).journal ≡ solo.new.journal
-        → Run S.left S.faults S.reaches limits (map (λ sources. sources.items) phases.items)
+        → Run S.told limits (map (λ sources. sources.items) phases.items)
         (record { status = result; root = Some root; sessions = logs.new.items })
-        (K.taken sink.old) (K.taken sink.new) (K.faults sink.old < K.faults sink.new) }
+        (K.taken sink.old) (K.taken sink.new) }
 {
     let mut phase = 0;
     for sources in phases {
@@ -133,21 +133,21 @@ fn run_and_write<S: Source + Drop, K: Sink>(
     sink: &mut K,
 ) -> Status
     requires limits { limits ≡ solo.old.limits }
-    requires limit { limits.source ≤ 2 ^ 28 }
+    requires range { IsInRange limits }
     requires sources { length logs.old.items + length sources.items < 2 ^ 31 }
     requires room { length logs.old.items + length sources.items ≤ vec_capacity logs.old }
-    requires sources_countable { AllByRecursion (λ source. S.faults source < 2 ^ 64 - 1) sources.items }
-    requires sink_countable { K.faults sink.old < 2 ^ 64 - 1 }
+    requires sources_countable { AllByRecursion (λ source. (S.told source).faults < 2 ^ 64 - 1) sources.items }
+    requires sink_countable { (K.taken sink.old).faults < 2 ^ 64 - 1 }
     requires entries { AllByRecursion (λ entry. entry.session.0 ≤ length logs.old.items) solo.old.journal }
     ensures room { vec_capacity logs.old ≤ vec_capacity logs.new }
     ensures limits { solo.new.limits ≡ solo.old.limits }
-    ensures ends { EndsPhase S.left S.faults S.reaches limits phase sources.items solo.old.journal solo.new.journal logs.old.items logs.new.items
-        (K.taken sink.old) (K.taken sink.new) (K.faults sink.old) (K.faults sink.new) result }
+    ensures ends { EndsPhase S.told limits phase sources.items solo.old.journal solo.new.journal logs.old.items logs.new.items
+        (K.taken sink.old) (K.taken sink.new) result }
 {
     let before = logs.len();
     run_phase(alloc, limits, phase, sources, solo, logs);
     let added = &logs[before..];
-    match write_logs(sink, added) {
+    match write_logs(alloc, sink, added) {
         Ok(()) => status_of(added),
         Err(_) => Status::Write,
     }
@@ -163,14 +163,14 @@ fn run_phase<S: Source + Drop>(
     logs: &mut Vec<SessionLog>,
 )
     requires limits { limits ≡ solo.old.limits }
-    requires limit { limits.source ≤ 2 ^ 28 }
+    requires range { IsInRange limits }
     requires sources { length logs.old.items + length sources.items < 2 ^ 31 }
     requires room { length logs.old.items + length sources.items ≤ vec_capacity logs.old }
-    requires sources_countable { AllByRecursion (λ source. S.faults source < 2 ^ 64 - 1) sources.items }
+    requires sources_countable { AllByRecursion (λ source. (S.told source).faults < 2 ^ 64 - 1) sources.items }
     requires entries { AllByRecursion (λ entry. entry.session.0 ≤ length logs.old.items) solo.old.journal }
     ensures room { vec_capacity logs.old ≤ vec_capacity logs.new }
     ensures limits { solo.new.limits ≡ solo.old.limits }
-    ensures runs { RunsPhase S.left S.faults S.reaches limits phase sources.items solo.old.journal solo.new.journal logs.old.items logs.new.items }
+    ensures runs { RunsPhase S.told limits phase sources.items solo.old.journal solo.new.journal logs.old.items logs.new.items }
 {
     for source in sources {
         let number = SessionNo(logs.len() as u32 + 1);

@@ -96,7 +96,7 @@ fn each_command_has_its_reply_however_its_bytes_come(rt: HostRuntime) -> Result<
             "foo\n\n \ntable_create _x TABLE_HASH_KEY ShortText\n",
             "[[4,\"UnknownCommand foo\"],false]\n[[9,\"BadName _x\"],false]\n",
         ),
-        ("foo\r\n", "[[3,\"BadLine\"],false]\n"),
+        ("foo\r\n", "[[4,\"UnknownCommand foo\"],false]\n"),
         (
             "table_create a\"b\\c TABLE_HASH_KEY ShortText\n",
             "[[9,\"BadName a\\\"b\\\\c\"],false]\n",
@@ -118,8 +118,8 @@ fn loads_and_selects_are_answered_however_their_bytes_come(rt: HostRuntime) -> R
             "[[0],true]\n[[0],2]\n[[0],[[[2],[[\"_id\",\"UInt32\"],[\"_key\",\"ShortText\"]],[1,\"a\"],[2,\"b\"]]]]\n",
         ),
         (
-            "select Nope\ntable_create T TABLE_HASH_KEY ShortText\nload --table T --values '{}'\nload --table T --values '[3]'\nload --table T --values '[{\"_key\":\"\"}]'\nload --table T --values '[{\"_key\":\"a\",\"zzz\":1}]'\nload --table T --values '[{\"_key\":7}]'\n",
-            "[[11,\"NoSuchTable Nope\"],false]\n[[0],true]\n[[20,\"BadJson\"],0]\n[[21,\"BadRow row 1\"],0]\n[[23,\"EmptyKey row 1\"],0]\n[[12,\"NoSuchColumn row 1 zzz\"],0]\n[[16,\"BadValue row 1 _key\"],0]\n",
+            "select Nope\ntable_create T TABLE_HASH_KEY ShortText\nload --table T --values '{}'\nload --table T --values '[3]'\nload --table T --values '[{\"_key\":\"\"}]'\nload --table T --values '[{\"_key\":\"a\",\"zzz\":1}]'\nload --table T --values '[{\"_key\":7}]'\nload --table T --values '[{}]'\n",
+            "[[11,\"NoSuchTable Nope\"],false]\n[[0],true]\n[[20,\"BadJson\"],0]\n[[21,\"BadRow row 1\"],0]\n[[23,\"EmptyKey row 1\"],0]\n[[12,\"NoSuchColumn row 1 zzz\"],0]\n[[16,\"BadValue row 1 _key\"],0]\n[[22,\"MissingKey row 1\"],0]\n",
         ),
     ] {
         assert!(rt; replies(alloc, text, want, 1)?);
@@ -152,6 +152,73 @@ fn no_words_are_refused(rt: HostRuntime) -> Result<(), Fail> {
     Ok(())
 }
 
+// So many lines that are no commands.
+fn lines(alloc: Global, count: usize) -> Result<String, NoMemory> {
+    let mut text = String::new(alloc);
+    for _ in 0..count {
+        text.push_str("x\n")?;
+    }
+    Ok(text)
+}
+
+// How many bytes of the replies to so many lines are taken where the second write fails, and how the run ends.
+fn taken_at_once(alloc: Global, count: usize) -> Result<(usize, Status), NoMemory> {
+    let mut files = files(alloc, &lines(alloc, count)?, &[], ALL)?;
+    let mut sink = MemorySink::new(alloc, calls(alloc, &[1])?, 1_000_000)?;
+    let report = run(alloc, "a.grn", &mut files, &mut sink)?;
+    Ok((sink.taken().len(), report.status))
+}
+
+#[test]
+fn replies_are_written_in_large_pieces(rt: HostRuntime) -> Result<(), Fail> {
+    let alloc = rt.alloc();
+    assert_eq!(rt; taken_at_once(alloc, 2_000)?, (62_000, Status::Ok));
+    assert_eq!(rt; taken_at_once(alloc, 4_000)?, (65_536, Status::Write));
+    Ok(())
+}
+
+// A source of a text, which gives up to four bytes at a time.
+fn source(alloc: Global, text: &str) -> Result<MemorySource, NoMemory>
+    ensures { IfOk result (λ source. source.faults ≡ 0) }
+{
+    MemorySource::new(
+        Bytes::from_slice(alloc, text.as_bytes())?,
+        calls(alloc, &[])?,
+        4,
+    )
+}
+
+// A run of two phases of two sources each.
+fn two_phases(alloc: Global, sink: &mut MemorySink) -> Result<Report, NoMemory>
+    requires { sink.old.faults ≡ 0 }
+{
+    let load = "load --table T --values '[{\"_key\":\"a\"}]'\n";
+    let first = vec![in alloc; source(alloc, CREATION)?, source(alloc, load)?]?;
+    let second = vec![in alloc; source(alloc, CREATION)?, source(alloc, "select T\n")?]?;
+    let phases = vec![in alloc; first, second]?;
+    Ok(run_serial(alloc, Limits::default(), phases, sink))
+}
+
+#[test]
+fn a_later_phase_goes_on_where_the_one_before_ended(rt: HostRuntime) -> Result<(), Fail> {
+    let alloc = rt.alloc();
+    let mut sink = sink(alloc, &[])?;
+    let report = two_phases(alloc, &mut sink)?;
+    assert_eq!(rt; report.status, Status::Ok);
+    let want =
+        "[[0],true]\n[[0],1]\n[[10,\"NameTaken T\"],false]\n[[0],[[[1],[[\"_id\",\"UInt32\"],[\"_key\",\"ShortText\"]],[1,\"a\"]]]]\n";
+    assert_eq!(rt; sink.taken(), want.as_bytes());
+    let mut labels = Vec::new(alloc);
+    for log in report.sessions.as_slice() {
+        labels.push((log.number.0, log.phase, log.opened))?;
+    }
+    assert_eq!(rt;
+        labels.as_slice(),
+        [(1, 1, 0), (2, 1, 1), (3, 2, 2), (4, 2, 2)].as_slice()
+    );
+    Ok(())
+}
+
 // One run of one source under these limits.
 fn serial(
     alloc: Global,
@@ -162,9 +229,8 @@ fn serial(
     requires limits { IsInRange limits }
     requires sink { sink.old.faults ≡ 0 }
 {
-    let bytes = Bytes::from_slice(alloc, text.as_bytes())?;
     let mut sources = Vec::new(alloc);
-    sources.push(MemorySource::new(bytes, calls(alloc, &[])?, 4)?)?;
+    sources.push(source(alloc, text)?)?;
     let mut phases = Vec::new(alloc);
     phases.push(sources)?;
     Ok(run_serial(alloc, limits, phases, sink))

@@ -1,16 +1,13 @@
-pub mod Accepting
-mod Asking
-mod Ending
-mod Finding
-mod Fitting
-mod Found
-mod Holding
-pub mod Lines
-pub mod Owning
-mod Placing
-mod Quotes
-mod Running
-mod Showing
-mod Steps
-mod Texts
-mod Words
+mod EndsLemmas
+mod HoldsLemmas
+mod KeptLemmas
+mod LoadLemmas
+mod MeaningLemmas
+pub mod OwnLemmas
+pub mod ReplyLemmas
+mod ReplyTextLemmas
+mod RowsLemmas
+mod SelectLemmas
+mod StepsLemmas
+mod TableLemmas
+mod ValidLemmas

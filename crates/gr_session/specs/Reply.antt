@@ -3,46 +3,47 @@ use Rattle.std.specs.Prelude.{ℕ, ◌≡◌, ◌+◌, ◌<◌, ◌≤◌, ◌�
 use Rattle.std.specs.List.{AllByRecursion}
 use Rattle.gr_base.specs.declared.fault.Fault.{Fault}
 use Rattle.gr_base.specs.declared.numbers.Limits.{Limits}
-use Rattle.gr_model.specs.Db.{Db}
+use Rattle.gr_cmdline.specs.declared.command.Item.{Item}
 use Rattle.gr_model.specs.Entry.{fault_of, replay}
 use Rattle.gr_model.specs.declared.entry.Change.{Change}
 use Rattle.gr_model.specs.declared.entry.Entry.{Entry}
-use Rattle.gr_session.specs.Asked.{changes_of, closing_line, entries_of, starved_body, stopped_line}
+use Rattle.gr_session.specs.Commands.{meaning_of}
+use Rattle.gr_session.specs.Entries.{entries_of}
+use Rattle.gr_session.specs.Meaning.{Meaning}
 use Rattle.gr_session.specs.Own.{own}
-use Rattle.gr_session.specs.ReplyText.{want_of_memory_line}
-use Rattle.gr_session.specs.declared.command.Next.{Next}
 use Rattle.gr_session.specs.declared.session.Done.{Done}
 
--- the database that a command is read at
-abbrev pub read_at : List Entry → Done → Db
-read_at journal done = replay (take done.from journal)
+-- what an item means at the database that it was read at
+abbrev pub meaning_at : List Entry → Item → Done → Meaning
+meaning_at journal item done = meaning_of (replay (take done.from journal)) item
 
 -- just after the last of some placed entries, or where there is none at the start
 abbrev pub after_last : ℕ → List (ℕ × Entry) → ℕ
 after_last start [] = start
 after_last start (placed ∷ more) = after_last (placed.0 + 1) more
 
--- a command's own entries are the first that it asks for, their parts in order, and stand from `from` up to the mark
-pub record OwnsFirst (journal : List Entry) (session command : ℕ) (item : Next) (done : Done) (made : ℕ) : Type 0 where
-  pub entries : map (λ placed. placed.1) (own session command journal) ≡ take made (entries_of session command 0 (changes_of (read_at journal done) item))
+-- a command owns so many entries: the first that it asks for, their parts in order, which stand from `from` up to the mark
+pub record OwnsFirst (journal : List Entry) (session command : ℕ) (item : Item) (done : Done) (made : ℕ) : Type 0 where
+  pub count : length (own session command journal) ≡ made
+  pub entries : map (λ placed. placed.1) (own session command journal) ≡ take made (entries_of session command 0 (meaning_at journal item done).changes)
   pub places : AllByRecursion (λ placed. (done.from ≤ placed.0) × (placed.0 < done.mark)) (own session command journal)
 
 -- all that was asked for was made, the mark is just after the last of it, and the command's answer is told
-pub record IsWhole (journal : List Entry) (session command : ℕ) (item : Next) (done : Done) (made : ℕ) : Type 0 where
-  pub all : made ≡ length (changes_of (read_at journal done) item)
+pub record IsWhole (journal : List Entry) (session command : ℕ) (item : Item) (done : Done) (made : ℕ) : Type 0 where
+  pub all : made ≡ length (meaning_at journal item done).changes
   pub mark : done.mark ≡ after_last done.from (own session command journal)
-  pub text : done.text ≡ closing_line (read_at journal done) item
+  pub text : done.text ≡ (meaning_at journal item done).answer
 
 -- the next change asked for has a first fault at the mark, which is told
-pub record IsStopped (limits : Limits) (journal : List Entry) (session command : ℕ) (item : Next) (done : Done) (made : ℕ) : Type 0 where
+pub record IsStopped (limits : Limits) (journal : List Entry) (session command : ℕ) (item : Item) (done : Done) (made : ℕ) : Type 0 where
   pub change : Change
-  pub next : slice_get (changes_of (read_at journal done) item) made ≡ Some change
+  pub next : slice_get (meaning_at journal item done).changes made ≡ Some change
   pub fault : Fault
   pub first : fault_of limits (take done.mark journal) change ≡ Some fault
-  pub text : done.text ≡ stopped_line item made fault
+  pub text : done.text ≡ (meaning_at journal item done).refused made fault
 
 -- the reply is its command's meaning at a prefix of the journal: so many of the changes that it asks for there were made, all of them or up to one that is refused
-pub record Reply (limits : Limits) (journal : List Entry) (session command : ℕ) (item : Next) (done : Done) : Type 0 where
+pub record Reply (limits : Limits) (journal : List Entry) (session command : ℕ) (item : Item) (done : Done) : Type 0 where
   pub made : ℕ
   pub order : done.from ≤ done.mark
   pub within : done.mark ≤ length journal
@@ -50,9 +51,9 @@ pub record Reply (limits : Limits) (journal : List Entry) (session command : ℕ
   pub answers : IsWhole journal session command item done made ⊎ IsStopped limits journal session command item done made
 
 -- want of memory: of the changes asked for the first few were made
-pub record IsStarved (journal : List Entry) (session command : ℕ) (item : Next) (done : Done) : Type 0 where
+pub record IsStarved (journal : List Entry) (session command : ℕ) (item : Item) (done : Done) : Type 0 where
   pub made : ℕ
   pub order : done.from ≤ done.mark
   pub within : done.mark ≤ length journal
   pub owns : OwnsFirst journal session command item done made
-  pub text : done.text ≡ want_of_memory_line (starved_body item made)
+  pub text : done.text ≡ (meaning_at journal item done).starved made

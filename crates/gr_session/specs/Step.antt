@@ -2,15 +2,16 @@
 use Rattle.std.specs.Prelude.{ℕ, ◌≡◌, ◌+◌, ◌-◌, ◌^◌, ◌<◌, ◌≤◌, Bool, false, Option, Some, None, MatchBool, List, ◌++◌, length, slice_get, take, IsUtf8}
 use Rattle.gr_base.specs.declared.fault.Fault.{Fault}
 use Rattle.gr_base.specs.declared.numbers.Limits.{Limits}
+use Rattle.gr_cmdline.specs.declared.command.Item.{Item}
 use Rattle.gr_model.specs.Entry.{HoldsText, IsValid, fault_of, replay}
 use Rattle.gr_model.specs.declared.entry.Entry.{Entry}
 use Rattle.gr_publish.specs.Root.{Rooted}
 use Rattle.gr_publish.specs.declared.published.Published.{Published as Answer}
 use Rattle.gr_publish.specs.declared.published.Published.TheVariants.{Published, Refused, NoMemory}
-use Rattle.gr_session.specs.Asked.{changes_of, entry_of}
+use Rattle.gr_session.specs.Commands.{meaning_of}
+use Rattle.gr_session.specs.Entries.{entry_of}
 use Rattle.gr_session.specs.Own.{own}
 use Rattle.gr_session.specs.Reply.{IsStarved, OwnsFirst, Reply, after_last}
-use Rattle.gr_session.specs.declared.command.Next.{Next}
 use Rattle.gr_session.specs.declared.session.Done.{Done}
 use Rattle.gr_session.specs.declared.session.Step.{Step}
 use Rattle.gr_session.specs.declared.session.Step.TheVariants.{Publish, Done as Finished}
@@ -18,7 +19,7 @@ use Rattle.gr_session.specs.declared.session.Step.TheVariants.{Publish, Done as 
 -- a command under way: the state that it was read at, what it is, how many of its changes stand, and the length of the journal just after the last of them
 pub record Going : Type 0 where
   pub base : Rooted
-  pub item : Next
+  pub item : Item
   pub made : ℕ
   pub reached : ℕ
 
@@ -52,7 +53,7 @@ pub record Begins (base journal : List Entry) : Type 0 where
 
 -- the next entry of a command: the change that it asks for next, which is valid where it was read
 pub record AsksNext (standing : Standing) (going : Going) (entry : Entry) : Type 0 where
-  pub change : slice_get (changes_of (replay going.base.journal) going.item) going.made ≡ Some entry.change
+  pub change : slice_get (meaning_of (replay going.base.journal) going.item).changes going.made ≡ Some entry.change
   pub entry_is : entry ≡ entry_of standing.session standing.command going.made entry.change
   pub valid : IsValid (replay going.base.journal) entry.change
   pub text : HoldsText entry.change
@@ -77,7 +78,7 @@ HoldsWhereRefused old going fault done journal = (entry : Entry) → AsksNext ol
     → fault_of old.limits (take done.mark journal) entry.change ≡ Some fault → Reply old.limits journal old.session old.command going.item done
 
 -- a command that was read at a state, of which nothing stands yet
-abbrev pub begun : Rooted → Next → Going
+abbrev pub begun : Rooted → Item → Going
 begun root item = record { base = root; item = item; made = 0; reached = length root.journal }
 
 -- a command of which one change more stands, at this place
@@ -85,7 +86,7 @@ abbrev pub made_at : Going → ℕ → Going
 made_at going place = record { base = going.base; item = going.item; made = going.made + 1; reached = place + 1 }
 
 -- how a command begins: it asks for its first entry, or is done at once
-abbrev pub BeginsWith : Standing → Standing → Rooted → Next → Step → Type 0
+abbrev pub BeginsWith : Standing → Standing → Rooted → Item → Step → Type 0
 BeginsWith old new root item (Publish entry) = (new ≡ going_on old (begun root item)) × AsksNext old (begun root item) entry
 BeginsWith old new root item (Finished done) = Ends old new (begun root item) (length root.journal) done (HoldsAfterLast old (begun root item) done)
 

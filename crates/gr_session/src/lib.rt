@@ -1,17 +1,15 @@
-// Commands, the reader of their lines, and the session that runs them.
+// What each command means, and the session that runs them.
 #![tactic(auto)]
 
 mod asked;
-mod command;
-mod going;
-mod line;
-mod reader;
+mod checks;
+mod commands;
+mod fixed;
+mod form;
 mod reply;
-mod select;
 mod session;
 mod solo;
+mod under_way;
 
-pub use command::{Command, Next};
-pub use reader::Reader;
 pub use session::{Done, Session, Step};
 pub use solo::step_solo;

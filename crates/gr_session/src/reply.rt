@@ -1,76 +1,114 @@
 // The lines that replies are made of.
-ghost use Rattle.std.specs.Prelude.{◌≡◌, IfOk, IfSome, IsUtf8, codes, string_bytes};
+ghost use Rattle.std.specs.Prelude.{◌≡◌, ◌++◌, IfOk, IsUtf8, OnOk, codes};
 ghost use Rattle.std.specs.Fmt.{decimal};
 ghost use Rattle.json.specs.Print.{quoted};
+ghost use Rattle.gr_session.specs.Inside.Body.{body_text};
 ghost use Rattle.gr_base.specs.Fault.{fault_named};
 ghost use Rattle.gr_base.specs.declared.fault.FaultKind.TheVariants.{NoSuchTable};
-ghost use Rattle.gr_session.specs.Asked.{line_of};
 ghost use Rattle.gr_session.specs.ReplyText.{refusal_line, success_line, want_of_memory_line};
 
 use gr_base::{Bytes, Fault, FaultKind, NoMemory, fault_text};
-use serde_json::Value;
+use itoa::Buffer;
+use json::Writer;
 use std::alloc::Global;
 
+// Bytes of a line beyond the text of its fault: brackets, commas and quotes, a code of two digits and a number of twenty.
+const FRAME: usize = 34;
+
+// The body of a reply.
+#[derive(Clone, Copy)]
+pub(crate) enum Body {
+    True,
+    False,
+    // How many rows were entered.
+    Rows(u64),
+}
+
 // The reply to a command that was done.
-pub(crate) fn success(alloc: Global, body: &str) -> Result<Bytes, NoMemory>
-    ensures { IfOk result (λ text. text ≡ success_line body.now) }
+pub(crate) fn success(alloc: Global, body: Body) -> Result<Bytes, NoMemory>
+    ensures { IfOk result (λ text. text ≡ success_line (body_text body)) }
 {
-    let line = format!(in alloc; "[[0],{body}]\n")?;
-    Bytes::from_string(alloc, line)
+    let line = begun(alloc, FRAME, b"[[0],")?;
+    ended(alloc, line, body)
 }
 
 // The reply to a command for which no memory was found.
-pub(crate) fn want_of_memory(alloc: Global, body: &str) -> Result<Bytes, NoMemory>
-    ensures { IfOk result (λ text. text ≡ want_of_memory_line body.now) }
+pub(crate) fn want_of_memory(alloc: Global, body: Body) -> Result<Bytes, NoMemory>
+    ensures { IfOk result (λ text. text ≡ want_of_memory_line (body_text body)) }
 {
-    let line = format!(in alloc; "[[36,\"NoMemory\"],{body}]\n")?;
-    Bytes::from_string(alloc, line)
+    let line = begun(alloc, FRAME, b"[[36,\"NoMemory\"],")?;
+    ended(alloc, line, body)
 }
 
 // The reply to a command that was refused.
-pub(crate) fn refusal(alloc: Global, fault: &Fault, body: &str) -> Result<Bytes, NoMemory>
+pub(crate) fn refusal(alloc: Global, fault: &Fault, body: Body) -> Result<Bytes, NoMemory>
     requires { IsUtf8 fault.now.name }
-    ensures { IfOk result (λ text. text ≡ refusal_line fault.now body.now) }
+    ensures { IfOk result (λ text. text ≡ refusal_line fault.now (body_text body)) }
 {
-    let code = fault.kind.code();
     let text = fault_text(alloc, fault)?;
-    let text = quoted(alloc, text.as_text())?;
-    let text = text.as_str();
-    let line = format!(in alloc; "[[{code},{text}],{body}]\n")?;
-    Bytes::from_string(alloc, line)
+    let room = text.as_slice().len().saturating_add(FRAME);
+    let mut line = begun(alloc, room, b"[[")?;
+    push_number(&mut line, u64::from(fault.kind.code()))?;
+    line.extend_from_slice(b",")?;
+    let mut line = with_quoted(line, text.as_text())?;
+    line.extend_from_slice(b"],")?;
+    ended(alloc, line, body)
 }
 
-// The reply to a command that names a table which is not there.
-pub(crate) fn no_table(alloc: Global, table: &Bytes, body: &str) -> Result<Bytes, NoMemory>
-    requires { IsUtf8 table.now }
-    ensures { IfOk result (λ text. text ≡ refusal_line (fault_named NoSuchTable table.now) body.now) }
+// A line that begins so, with room for what follows.
+fn begun(alloc: Global, room: usize, start: &[u8]) -> Result<Vec<u8>, NoMemory>
+    ensures { IfOk result (λ line. line.items ≡ start.now) }
 {
-    let fault = Fault::named(FaultKind::NoSuchTable, table.try_clone()?);
-    refusal(alloc, &fault, body)
+    let mut line = Vec::with_capacity(alloc, room)?;
+    line.extend_from_slice(start)?;
+    Ok(line)
 }
 
-// The reply to a command that was done up to this fault, where there is one.
-pub(crate) fn line_of(alloc: Global, body: &str, fault: &Option<Fault>) -> Result<Bytes, NoMemory>
-    requires { IfSome fault.now (λ found. IsUtf8 found.name) }
-    ensures { IfOk result (λ text. text ≡ line_of body.now fault.now) }
+// A line with its body and its end.
+fn ended(alloc: Global, mut line: Vec<u8>, body: Body) -> Result<Bytes, NoMemory>
+    ensures { IfOk result (λ text. text ≡ line.items ++ (body_text body ++ codes "]\n")) }
 {
-    match fault {
-        Some(fault) => refusal(alloc, fault, body),
-        None => success(alloc, body),
+    push_body(&mut line, body)?;
+    line.extend_from_slice(b"]\n")?;
+    Bytes::from_vec(alloc, line)
+}
+
+fn push_body(line: &mut Vec<u8>, body: Body) -> Result<(), NoMemory>
+    ensures { OnOk result (line.new.items ≡ line.old.items ++ body_text body) }
+{
+    match body {
+        Body::True => line.extend_from_slice(b"true")?,
+        Body::False => line.extend_from_slice(b"false")?,
+        Body::Rows(rows) => push_number(line, rows)?,
     }
+    Ok(())
 }
 
 // A number in decimal digits.
-pub(crate) fn digits(alloc: Global, number: u64) -> Result<String, NoMemory>
-    ensures { IfOk result (λ text. string_bytes text ≡ decimal number) }
+pub(crate) fn push_number(line: &mut Vec<u8>, number: u64) -> Result<(), NoMemory>
+    ensures { OnOk result (line.new.items ≡ line.old.items ++ decimal number) }
 {
-    Ok(format!(in alloc; "{number}")?)
+    let mut buffer = Buffer::new();
+    line.extend_from_slice(buffer.format(number).as_bytes())?;
+    Ok(())
 }
 
-// A text as a JSON string.
-fn quoted(alloc: Global, text: &str) -> Result<String, NoMemory>
-    ensures { IfOk result (λ json. string_bytes json ≡ quoted text.now) }
+// A line with a text as a JSON string at its end.
+pub(crate) fn with_quoted(line: Vec<u8>, text: &str) -> Result<Vec<u8>, NoMemory>
+    ensures { IfOk result (λ longer. longer.items ≡ line.items ++ quoted text.now) }
 {
-    let text = String::from_str(alloc, text)?;
-    Ok(Value::String(text).to_string(alloc)?)
+    let mut writer = Writer::new(line);
+    writer.string(text)?;
+    Ok(writer.into_inner())
+}
+
+// The fault of a command that names a table which is not there.
+pub(crate) fn no_table(alloc: Global, table: &str) -> Result<Fault, NoMemory>
+    ensures exact { IfOk result (λ fault. fault ≡ fault_named NoSuchTable table.now) }
+    ensures text { IfOk result (λ fault. IsUtf8 fault.name) }
+{
+    Ok(Fault::named(
+        FaultKind::NoSuchTable,
+        Bytes::from_slice(alloc, table.as_bytes())?,
+    ))
 }

@@ -1,19 +1,20 @@
 // A session: one file's commands, run in order.
-ghost use Rattle.std.specs.Prelude.{◌≡◌, ◌+◌, ◌≤◌, ◌<◌, ◌^◌, ◌-◌, true, false, if◌then◌else◌, None, Some, length, codes, IfOk, IfSome, IsSome, IsUtf8};
+ghost use Rattle.std.specs.Prelude.{◌≡◌, ◌+◌, ◌≤◌, ◌<◌, ◌^◌, ◌-◌, false, None, Some, length, IfOk, IfSome, IsSome, IsUtf8, true};
 ghost use Rattle.std.specs.Option.{ForSome};
 ghost use Rattle.std.specs.Arc.{arc_value};
-ghost use Rattle.gr_model.specs.Entry.{replay};
-ghost use Rattle.gr_session.specs.Asked.{entry_of, starved_body};
-ghost use Rattle.gr_session.specs.Commands.{IsItem};
-ghost use Rattle.gr_session.specs.Kept.{IsBetween, IsFinished, IsKept, IsWaiting, Proceeds, Stops, seen, taken_up};
+ghost use Rattle.gr_cmdline.specs.Commands.{IsItem};
+ghost use Rattle.gr_session.specs.Entries.{entry_of};
+ghost use Rattle.gr_session.specs.Inside.Kept.{IsBetween, IsWaiting, seen};
+ghost use Rattle.gr_session.specs.Inside.Stepping.{IsFinished, Proceeds, Stops, taken_up};
+ghost use Rattle.gr_session.specs.Meaning.{body_after};
 ghost use Rattle.gr_session.specs.ReplyText.{want_of_memory_line};
-ghost use Rattle.gr_session.specs.Step.{AnswersText, BeginsWith, GoesOn, IsCounted, answered_at, going_on, gone_on, opened_at};
+ghost use Rattle.gr_session.specs.Step.{AnswersText, BeginsWith, GoesOn, IsCounted, answered_at, going_on, gone_on, opened_at, begun};
 ghost use Rattle.gr_session.specs.declared.session.Step.TheVariants.{Publish};
 
-use super::going::{Begun, Going, Turn, Waiting, begin_item, stopped};
-use super::reply::want_of_memory;
-use super::{Command, Next};
+use crate::form::Form;
+use crate::under_way::{Spare, UnderWay};
 use gr_base::{Bytes, Fault, Limits, NoMemory, SessionNo};
+use gr_cmdline::Item;
 use gr_model::{Change, Entry};
 use gr_publish::{Published, Root};
 use std::alloc::Global;
@@ -40,15 +41,6 @@ pub enum Step {
     Done(Done),
 }
 
-// The replies to want of memory where nothing was made.
-#[derive(Drop)]
-pub(crate) struct Spare {
-    // To a load.
-    load: Bytes,
-    // To another command.
-    other: Bytes,
-}
-
 /// A session, which contracts see as where it stands.
 #[derive(Drop)]
 pub struct Session {
@@ -58,13 +50,14 @@ pub struct Session {
     mark: u64,
     // Until one of them is given, with which the session ends.
     spare: Option<Spare>,
-    going: Option<Waiting>,
+    going: Option<UnderWay>,
 }
 
 impl Model for Session {
     ghost use Rattle.std.specs.Prelude.{is_none};
     ghost use Rattle.std.specs.Option.{option_map};
-    ghost use Rattle.gr_session.specs.Kept.{IsReady, seen};
+    ghost use Rattle.gr_session.specs.Inside.Kept.{seen};
+    ghost use Rattle.gr_session.specs.Inside.Stepping.{IsReady};
     ghost use Rattle.gr_session.specs.Step.{Standing};
 
     ghost Value = { Standing };
@@ -75,7 +68,7 @@ impl Model for Session {
       command = s.command;
       mark = s.mark;
       ended = is_none s.spare;
-      going = option_map (λ waiting. seen waiting.going) s.going;
+      going = option_map (λ command. seen command) s.going;
     } };
 
     ghost invariant = { IsReady };
@@ -96,10 +89,7 @@ impl Session {
             number,
             command: 0,
             mark: opened,
-            spare: Some(Spare {
-                load: want_of_memory(alloc, "0")?,
-                other: want_of_memory(alloc, "false")?,
-            }),
+            spare: Some(Spare::new(alloc)?),
             going: None,
         })
     }
@@ -112,21 +102,20 @@ impl Session {
     }
 
     /// Begins a command, which is read at this state, or refuses a line.
-    pub fn begin(&mut self, alloc: Global, root: &Arc<Root>, next: Next) -> Step
-        requires item { IsItem next }
+    pub fn begin(&mut self, alloc: Global, root: &Arc<Root>, item: Item) -> Step
+        requires item { IsItem item }
         requires running { self.old.ended ≡ false }
         requires idle { self.old.going ≡ None }
         requires countable { self.old.command < 2 ^ 64 - 1 }
         requires behind { self.old.mark ≤ length (arc_value root.now).journal }
-        ensures { BeginsWith self.old self.new (arc_value root.now) next result }
+        ensures { BeginsWith self.old self.new (arc_value root.now) item result }
     {
         let at = root.journal().len();
-        let is_load = is_load(&next);
-        match begin_item(alloc, root, next) {
-            Ok(Begun::Going(going)) => self.turned(alloc, going),
-            Ok(Begun::Answered(text)) => self.finish(at, at, text),
+        let form = Form::of(&item);
+        match self.read(alloc, root, item) {
+            Ok(command) => self.go_on(alloc, command),
             Err(NoMemory) => {
-                let text = self.take_spare(is_load);
+                let text = self.take_spare(form);
                 self.finish(at, at, text)
             }
         }
@@ -141,88 +130,102 @@ impl Session {
         requires text { AnswersText answer }
         ensures { IfSome self.old.going (λ going. GoesOn self.old self.new going answer result) }
     {
-        let waiting = self.take_up();
+        let mut command = self.take_up();
         match answer {
-            Published::Published { place } => self.turned(alloc, waiting.made_at(place)),
-            Published::Refused { fault, mark } => self.stop(alloc, waiting.going, fault, mark),
-            Published::NoMemory { mark } => self.starve(waiting.going, mark),
+            Published::Published { place } => {
+                command.make(place);
+                self.go_on(alloc, command)
+            }
+            Published::Refused { fault, mark } => self.stop(alloc, command, fault, mark),
+            Published::NoMemory { mark } => self.starve(command, mark),
+        }
+    }
+
+    // Reads an item at a state.
+    fn read(&self, alloc: Global, root: &Arc<Root>, item: Item) -> Result<UnderWay, NoMemory>
+        requires item { IsItem item }
+        requires running { self.now.ended ≡ false }
+        ensures between { IfOk result IsBetween }
+        ensures begun { IfOk result (λ command. seen command ≡ begun (arc_value root.now) item) }
+    {
+        match &self.spare {
+            Some(spare) => UnderWay::begin(alloc, root, item, spare),
+            None => unreachable!(),
         }
     }
 
     // Takes the command under way up, to go on with it.
-    fn take_up(&mut self) -> Waiting
+    fn take_up(&mut self) -> UnderWay
         requires { IsSome self.old.going }
         ensures waiting { IsWaiting result }
-        ensures was { self.old.going ≡ Some (seen result.going) }
+        ensures was { self.old.going ≡ Some (seen result) }
         ensures countable { self.old.command < 2 ^ 64 - 1 }
         ensures now { self.new ≡ taken_up self.old }
     {
         match self.going.take() {
-            Some(waiting) => waiting,
+            Some(command) => command,
             None => unreachable!(),
         }
     }
 
     // Asks for a command's next entry, or ends the command.
-    fn turned(&mut self, alloc: Global, going: Going) -> Step
-        requires between { IsBetween going }
+    fn go_on(&mut self, alloc: Global, command: UnderWay) -> Step
+        requires between { IsBetween command }
         requires running { self.old.ended ≡ false }
         requires idle { self.old.going ≡ None }
         requires countable { self.old.command < 2 ^ 64 - 1 }
-        ensures { Proceeds self.old self.new (seen going) result }
+        ensures { Proceeds self.old self.new (seen command) result }
     {
-        let (from, mark) = (going.root.journal().len(), going.reached);
-        match going.turn(alloc) {
-            Turn::Asks(waiting, change) => self.ask(waiting, change),
-            Turn::Closes(text) => self.finish(from, mark, text),
-            Turn::Starves(text) => {
-                self.spare = None;
-                self.finish(from, mark, text)
-            }
+        let mut command = command;
+        let (from, mark) = (command.from(), command.reached());
+        match command.next(alloc) {
+            Ok(Some(change)) => self.ask(command, change),
+            Ok(None) => self.finish(from, mark, command.answer),
+            Err(NoMemory) => self.starve(command, mark),
         }
     }
 
     // Asks for an entry with this change.
-    fn ask(&mut self, waiting: Waiting, change: Change) -> Step
-        requires waiting { IsWaiting waiting }
+    fn ask(&mut self, command: UnderWay, change: Change) -> Step
+        requires waiting { IsWaiting command }
         requires countable { self.old.command < 2 ^ 64 - 1 }
-        ensures asks { result ≡ Publish (entry_of self.old.session self.old.command waiting.going.made change) }
-        ensures waits { self.new ≡ going_on self.old (seen waiting.going) }
+        ensures asks { result ≡ Publish (entry_of self.old.session self.old.command command.made change) }
+        ensures waits { self.new ≡ going_on self.old (seen command) }
     {
         let entry = Entry {
             session: self.number,
             command: self.command,
-            part: waiting.going.made,
+            part: command.made(),
             change,
         };
-        self.going = Some(waiting);
+        self.going = Some(command);
         Step::Publish(entry)
     }
 
     // Ends a command of which an entry was refused.
-    fn stop(&mut self, alloc: Global, going: Going, fault: Fault, mark: u64) -> Step
-        requires kept { IsKept (replay (arc_value going.root).journal) going (going.made + 1) }
+    fn stop(&mut self, alloc: Global, command: UnderWay, fault: Fault, mark: u64) -> Step
+        requires waiting { IsWaiting command }
         requires text { IsUtf8 fault.name }
         requires running { self.old.ended ≡ false }
         requires idle { self.old.going ≡ None }
         requires countable { self.old.command < 2 ^ 64 - 1 }
-        requires reached { going.reached ≤ mark }
-        ensures { Stops self.old self.new (seen going) fault mark result }
+        requires reached { command.reached ≤ mark }
+        ensures { Stops self.old self.new (seen command) fault mark result }
     {
-        match stopped(alloc, &going.item, going.made, fault) {
-            Ok(text) => self.finish(going.root.journal().len(), mark, text),
-            Err(NoMemory) => self.starve(going, mark),
+        match command.refused(alloc, fault) {
+            Ok(text) => self.finish(command.from(), mark, text),
+            Err(NoMemory) => self.starve(command, mark),
         }
     }
 
     // Ends a command, and the session, for want of memory.
-    fn starve(&mut self, going: Going, mark: u64) -> Step
+    fn starve(&mut self, command: UnderWay, mark: u64) -> Step
         requires idle { self.old.going ≡ None }
         requires countable { self.old.command < 2 ^ 64 - 1 }
-        ensures { IsFinished self.new (gone_on self.old mark true) (length (arc_value going.root).journal) mark going.starved result }
+        ensures { IsFinished self.new (gone_on self.old mark true) (length (arc_value command.root).journal) mark command.starved result }
     {
         self.spare = None;
-        self.finish(going.root.journal().len(), mark, going.starved)
+        self.finish(command.from(), mark, command.starved)
     }
 
     // Ends a command with this reply.
@@ -237,22 +240,14 @@ impl Session {
     }
 
     // Gives the reply to want of memory where nothing was made, with which the session ends.
-    fn take_spare(&mut self, is_load: bool) -> Bytes
+    fn take_spare(&mut self, form: Form) -> Bytes
         requires { self.old.ended ≡ false }
-        ensures text { result ≡ want_of_memory_line (if is_load then codes "0" else codes "false") }
+        ensures text { result ≡ want_of_memory_line (body_after form 0) }
         ensures ended { self.new ≡ record self.old { ended = true } }
     {
         match self.spare.take() {
-            Some(spare) if is_load => spare.load,
-            Some(spare) => spare.other,
+            Some(spare) => spare.take(form),
             None => unreachable!(),
         }
     }
-}
-
-// Whether it is a load, whose replies say how many rows were entered.
-fn is_load(item: &Next) -> bool
-    ensures { starved_body item.now 0 ≡ (if result then codes "0" else codes "false") }
-{
-    matches!(item, Next::Command(Command::Load { .. }))
 }

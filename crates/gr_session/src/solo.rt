@@ -1,9 +1,10 @@
 // A session's commands on one thread.
 ghost use Rattle.std.specs.Prelude.{◌≡◌, ◌≤◌, ◌<◌, ◌^◌, ◌-◌, false, None, length};
-ghost use Rattle.gr_session.specs.Commands.{IsItem};
+ghost use Rattle.gr_cmdline.specs.Commands.{IsItem};
 ghost use Rattle.gr_session.specs.Solo.{Steps};
 
-use super::{Done, Next, Session, Step};
+use crate::{Done, Session, Step};
+use gr_cmdline::Item;
 use gr_publish::Solo;
 use std::alloc::Global;
 
@@ -11,22 +12,24 @@ use std::alloc::Global;
 mod tests;
 
 /// Runs one command on one thread, or refuses one line.
-pub fn step_solo(alloc: Global, session: &mut Session, solo: &mut Solo, next: Next) -> Done
-    requires item { IsItem next }
+pub fn step_solo(alloc: Global, session: &mut Session, solo: &mut Solo, item: Item) -> Done
+    requires item { IsItem item }
     requires running { session.old.ended ≡ false }
     requires idle { session.old.going ≡ None }
     requires countable { session.old.command < 2 ^ 64 - 1 }
     requires behind { session.old.mark ≤ length solo.old.journal }
     requires limits { session.old.limits ≡ solo.old.limits }
-    ensures { Steps session.old session.new solo.old solo.new next result }
+    ensures { Steps session.old session.new solo.old solo.new item result }
 {
-    let mut step = session.begin(alloc, solo.pin(), next);
+    // That the journal was accepted is known from here on.
+    let _length = solo.pin().journal().len();
+    let mut step = session.begin(alloc, solo.pin(), item);
     loop {
         match step {
             Step::Done(done) => return done,
             Step::Publish(entry) => {
                 let answer = solo.publish(alloc, entry);
-                // That the journal's new length is a number of 64 bits is known from here on.
+                // That the longer journal was accepted, and that its length is a number of 64 bits, is known from here on.
                 let _length = solo.pin().journal().len();
                 step = session.answered(alloc, answer);
             }

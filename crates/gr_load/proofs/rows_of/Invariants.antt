@@ -2,7 +2,7 @@ use Rattle.std.proofs.Common.{◌≡◌, ◌+◌, length}
 use Rattle.std.specs.Vec.Iter.{into_iter_items, into_iter_len}
 use Rattle.serde_json.specs.View.{items_view}
 use Rattle.gr_load.specs.Rows.{keys_from}
-use Rattle.gr_load.proofs.Taken.{AreTaken}
+use Rattle.gr_load.proofs.KeysLemmas.{AreTaken}
 use Rattle.gr_load.proofs.rows_of.Given as goal
 
 abbrev pub invariant-loop-value : goal.invariant-loop-value

@@ -1,4 +1,4 @@
-use Rattle.gr_load.proofs.LastComma.{parts_at_comma}
+use Rattle.gr_load.proofs.CommaLemmas.{parts_at_comma}
 use Rattle.gr_load.proofs.comma.around_last_comma.Goals as goal
 
 pub returns : goal.returns

@@ -1,5 +1,5 @@
 use Rattle.std.proofs.Common.{sym, ap, ◌∙◌}
-use Rattle.gr_load.proofs.LastComma.{blank_parts, closes_by_parts}
+use Rattle.gr_load.proofs.CommaLemmas.{blank_parts, closes_by_parts}
 use Rattle.gr_load.proofs.comma.closes.Goals as goal
 
 pub returns-then-is_blank : goal.returns-then-is_blank

@@ -3,7 +3,7 @@ use Rattle.std.specs.List.{slice_get}
 use Rattle.std.specs.Map.{lookup, remove_entry}
 use Rattle.serde_json.specs.View.{view}
 use Rattle.serde_json.proofs.Views.{view-lookup}
-use Rattle.gr_load.proofs.Members.{is_key, first_left}
+use Rattle.gr_load.proofs.MembersLemmas.{is_key, first_left}
 use Rattle.gr_load.proofs.key.key_and_other.Goals as goal
 
 pub returns-clause-value : goal.returns-clause-value

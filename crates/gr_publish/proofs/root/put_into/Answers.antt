@@ -3,7 +3,7 @@ use Rattle.std.proofs.lemmas.Bool.Decides.{nat_tests}
 use Rattle.std.proofs.lemmas.Option.{slice_get_past, slice_get_read}
 use Rattle.std.proofs.lemmas.Result.{on_ok_weaker}
 use Rattle.gr_model.specs.Db.{Table, with_key}
-use Rattle.gr_publish.proofs.Tables.{changed_at-none, changed_at-set}
+use Rattle.gr_publish.proofs.ReplayLemmas.{changed_at-none, changed_at-set}
 use Rattle.gr_publish.proofs.root.put_into.Goals as goal
 
 pub returns-in-Some : goal.returns-in-Some

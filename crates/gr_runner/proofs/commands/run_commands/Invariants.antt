@@ -1,5 +1,6 @@
 -- The items so far were run, and those in the reader are left.
-use Rattle.std.proofs.Common.{◌≡◌, length}
+use Rattle.std.proofs.Common.{◌≡◌}
+use Rattle.gr_cmdline.specs.Stream.{size}
 use Rattle.gr_runner.proofs.RunningCommands.{RunsSoFar}
 use Rattle.gr_runner.proofs.commands.run_commands.Given as goal
 
@@ -10,4 +11,4 @@ invariant-commands l = record {
 }
 
 abbrev pub decreases-commands : goal.decreases-commands
-decreases-commands l = length l.reader.bytes
+decreases-commands l = size l.reader

@@ -7,7 +7,7 @@ abbrev pub invariant-loop-reader : goal.invariant-loop-reader
 invariant-loop-reader g l = record {
   limits : l.solo.limits ≡ l.fn.limits;
   room : length l.room.items ≡ 65536;
-  reading : IsReading l.fn.limits (g.S.Source.left l.fn.source) (g.S.Source.left l.source) (g.S.Source.faults l.fn.source) (g.S.Source.faults l.source) (g.S.Source.reaches l.fn.source) (g.S.Source.reaches l.source) l.total l.reader l.fn.session l.session l.fn.solo.journal l.solo.journal l.done.items;
+  reading : IsReading l.fn.limits (g.S.Source.told l.fn.source) (g.S.Source.told l.source) l.total l.reader l.fn.session l.session l.fn.solo.journal l.solo.journal l.done.items;
 }
 
 abbrev pub decreases-loop-reader : goal.decreases-loop-reader

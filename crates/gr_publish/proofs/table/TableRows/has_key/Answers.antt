@@ -1,4 +1,4 @@
-use Rattle.gr_publish.proofs.Keys.{any_key-rows_from}
+use Rattle.gr_publish.proofs.RowsLemmas.{any_key-rows_from}
 use Rattle.gr_publish.proofs.table.TableRows.has_key.Goals as goal
 
 pub returns : goal.returns

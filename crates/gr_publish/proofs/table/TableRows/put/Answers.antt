@@ -1,7 +1,7 @@
 use Rattle.std.proofs.Common.{◌≡◌, ℕ, List, ◌∙◌, false, length, ap}
 use Rattle.gr_model.specs.Db.{Table, has_key, with_key}
 use Rattle.gr_publish.specs.Root.{rows_from}
-use Rattle.gr_publish.proofs.Keys.{with_key-push}
+use Rattle.gr_publish.proofs.RowsLemmas.{with_key-push}
 use Rattle.gr_publish.proofs.table.TableRows.put.Goals as goal
 
 pub returns-in_ok-push : goal.returns-in_ok-push

@@ -1,14 +1,21 @@
-use Rattle.std.proofs.Common.{◌≡◌, length, rules}
+use Rattle.std.proofs.Common.{◌≡◌, length, rules, ap, ◌∙◌}
 use Rattle.std.specs.Arc.{arc_value}
-use Rattle.gr_session.specs.Kept.{IsBegun}
-use Rattle.gr_session.specs.declared.going.Begun.TheVariants.{Answered}
-use Rattle.gr_session.proofs.Ending.{BeginsWith-answered}
+use Rattle.gr_model.specs.Entry.{replay}
+use Rattle.gr_session.specs.Commands.{meaning_of}
+use Rattle.gr_session.specs.Inside.Stepping.{IsFinished}
+use Rattle.gr_session.specs.Meaning.{body_after}
+use Rattle.gr_session.specs.ReplyText.{want_of_memory_line}
+use Rattle.gr_session.specs.Step.{gone_on}
+use Rattle.gr_session.specs.declared.form.Form.{Form}
+use Rattle.gr_session.proofs.EndsLemmas.{BeginsWith-starved}
+use Rattle.gr_session.proofs.MeaningLemmas.{starved-meaning_of}
 use Rattle.gr_session.proofs.session.Session.begin.Goals as goal
 
-pub returns-in-Ok-Answered : goal.returns-in-Ok-Answered
-returns-in-Ok-Answered c =
+pub returns-in-Err : goal.returns-in-Err
+returns-in-Err c =
     let root = arc_value c.args.root.now in
-    let answered : IsBegun root c.args.next (Answered c.in-Ok-Answered.text) = rw c.in-Ok-Answered.field-0-is at c.in-Ok-Answered.ensures in
     let at : c.len-at.result ≡ length root.journal = search rules in
-    BeginsWith-answered c.args.self.now c.finish.new.self root c.args.next c.len-at.result c.in-Ok-Answered.text c.finish.result
-    c.finish.ensures c.requires.running at answered.0 answered.1
+    let told : c.take_spare-text.result ≡ (meaning_of (replay root.journal) c.args.item).starved 0 =
+    c.take_spare-text.ensures.text ∙ ap (λ (form : Form). want_of_memory_line (body_after form 0)) c.of-form.ensures ∙ starved-meaning_of (replay root.journal) c.args.item 0 in
+    BeginsWith-starved c.args.self.now c.finish.new.self root c.args.item c.len-at.result c.take_spare-text.result c.finish.result
+    (rw c.take_spare-text.ensures.ended at c.finish.ensures) at told

@@ -1,0 +1,4 @@
+pub mod Body
+pub mod Forms
+pub mod Kept
+pub mod Stepping
