@@ -1,0 +1,5 @@
+pub mod Flags
+pub mod Names
+pub mod Held
+pub mod Ways
+pub mod Sources

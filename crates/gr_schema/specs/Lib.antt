@@ -1,0 +1,9 @@
+pub mod Schema
+pub mod Words
+pub mod Flags
+pub mod Fields
+pub mod Wishes
+pub mod Sound
+pub mod Index
+pub mod Paths
+pub mod Inside
