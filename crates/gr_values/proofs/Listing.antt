@@ -1,7 +1,7 @@
 -- Lists of values: the length decides first, and each element is of the type.
-use Rattle.std.proofs.Common.{◌≡◌, ℕ, ℤ, ◌<◌, ◌≤◌, cond, ltb, List, length, Some, Result, Err, ap, sym, subst, ◌∙◌}
+use Rattle.std.proofs.Common.{◌≡◌, ℕ, ℤ, ◌<◌, ◌≤◌, cond, ltb, List, length, Option, Some, Result, Err, true, refl, ap, sym, subst, ◌∙◌}
 use Rattle.std.proofs.lemmas.Bool.{lt-ltb, le-ltb}
-use Rattle.std.specs.Option.{MatchOption}
+use Rattle.std.specs.Option.{MatchOption, is_some}
 use Rattle.serde_json.specs.Data.{array}
 use Rattle.serde_json.proofs.Views.{items_len-items_view}
 use Rattle.serde_json.specs.View.{items_view}
@@ -45,3 +45,7 @@ Answers-elements shape values result short h =
     let meant : list_of shape (array (items_view values)) ≡ elements_of shape (items_view values) =
     by_length shape values ∙ ap (λ b. cond b (Err TooLong) (elements_of shape (items_view values))) (le-ltb LONGEST_VECTOR (length values) short) in
     subst (λ m. Answers result m) (sym meant) h
+
+-- what is there, is some
+pub is_some-of : {X : Type 0} (x : X) (o : Option X) → Some x ≡ o → is_some o ≡ true
+is_some-of x o e = subst (λ found. is_some found ≡ true) e refl

@@ -34,4 +34,4 @@ IsShowable-Fits of shape (Given.Ref None) keyed fits = keyed
 IsShowable-Fits of shape (Given.Ref (Some key)) keyed fits = IsKeyText-key shape.of key fits.1
 IsShowable-Fits of shape (Given.RefList keys) keyed fits = each (IsKeyText-key shape.of) keys fits.1.each
 IsShowable-Fits of shape (Given.IntList zs) keyed fits = tt
-IsShowable-Fits of shape (Given.TextList texts) keyed fits = each (IsUtf8-text shape.of) texts fits.1.each
+IsShowable-Fits of shape (Given.TextList texts) keyed fits = each (IsUtf8-text shape.of) texts fits.2.each

@@ -1,5 +1,5 @@
 -- Which values stand in a cell of a shape, and which keys are keys of a type.
-use Rattle.std.specs.Prelude.{◌≡◌, ◌≤◌, ℕ, ◌^◌, ℤ, pos, neg_ℤ, ◌≤ℤ◌, ◌<ℤ◌, true, false, List, length, Some, None, MatchOption, IsUtf8}
+use Rattle.std.specs.Prelude.{◌≡◌, ◌≤◌, ℕ, ◌^◌, ℤ, pos, neg_ℤ, ◌≤ℤ◌, ◌<ℤ◌, true, false, is_some, List, length, Some, None, MatchOption, IsUtf8, ⊤}
 use Rattle.std.specs.List.{AllByRecursion}
 use Rattle.gr_base.specs.declared.limits.TheConstants.{LONGEST_KEY, LONGEST_VECTOR}
 use Rattle.gr_values.specs.declared.data_type.DataType.{DataType}
@@ -7,6 +7,7 @@ use Rattle.gr_values.specs.declared.data_type.Range.{Range}
 use Rattle.gr_values.specs.declared.data_type.DataType.TheVariants.{ShortText}
 use Rattle.gr_values.specs.declared.data_type.Shape.{Shape}
 use Rattle.gr_values.specs.declared.value.Key.{Key}
+use Rattle.gr_values.specs.declared.value.Cell.{Cell}
 use Rattle.gr_values.specs.declared.value.Given.{Given}
 use Rattle.gr_values.specs.Types.{is_bool, range_of, text_limit}
 
@@ -83,5 +84,15 @@ Fits shape (Given.Text s) = IsPlain shape × IsTextOf shape.of s
 Fits shape (Given.Ref None) = IsReference shape
 Fits shape (Given.Ref (Some key)) = IsReference shape × IsKeyOf shape.of key
 Fits shape (Given.RefList keys) = IsReferenceList shape × IsListOf (IsKeyOf shape.of) keys
-Fits shape (Given.IntList zs) = IsPlainList shape × IsListOf (IsWhole shape.of) zs
-Fits shape (Given.TextList texts) = IsPlainList shape × IsListOf (IsTextOf shape.of) texts
+Fits shape (Given.IntList zs) = IsPlainList shape × (is_some (range_of shape.of) ≡ true) × IsListOf (IsWhole shape.of) zs
+Fits shape (Given.TextList texts) = IsPlainList shape × (is_some (text_limit shape.of) ≡ true) × IsListOf (IsTextOf shape.of) texts
+
+-- the cell has the shape, and keeps the ranges and limits of its type
+abbrev pub IsCellOf : Shape → Cell → Type 0
+IsCellOf shape (Cell.Bool truth) = IsPlain shape × (is_bool shape.of ≡ true)
+IsCellOf shape (Cell.Int number) = IsPlain shape × IsWhole shape.of number
+IsCellOf shape (Cell.Text text) = IsPlain shape × IsTextOf shape.of text
+IsCellOf shape (Cell.Ref id) = IsReference shape
+IsCellOf shape (Cell.RefList ids) = IsReferenceList shape × IsListOf (λ id. ⊤) ids
+IsCellOf shape (Cell.IntList numbers) = IsPlainList shape × (is_some (range_of shape.of) ≡ true) × IsListOf (IsWhole shape.of) numbers
+IsCellOf shape (Cell.TextList texts) = IsPlainList shape × (is_some (text_limit shape.of) ≡ true) × IsListOf (IsTextOf shape.of) texts

@@ -5,3 +5,5 @@ pub mod Fits
 pub mod Shown
 pub mod Defaults
 pub mod Tokens
+pub mod View
+pub mod Same

@@ -11,6 +11,7 @@ mod shown;
 #[cfg(test)]
 mod tests;
 mod value;
+mod view;
 
 pub use data_type::{DataType, Kind, Range, Shape};
 pub use fault::ReadFault;
@@ -19,3 +20,4 @@ pub use path::{Field, Hop, Hops, Path};
 pub use read::{read_cell, read_key};
 pub use shown::given_text;
 pub use value::{Cell, Given, Key, Keys};
+pub use view::CellView;

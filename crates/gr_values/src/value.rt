@@ -18,6 +18,7 @@ pub enum Key {
 pub type Keys = ListOf<Key>;
 
 impl Key {
+    ghost use Rattle.gr_values.specs.Same.{is_same_key};
     ghost use Rattle.gr_values.specs.Values.{is_empty_text};
 
     /// Whether this is the empty text, which is no key and refers to nothing.
@@ -27,6 +28,17 @@ impl Key {
         match self {
             Key::Number(_) => false,
             Key::Text(text) => text.as_slice().is_empty(),
+        }
+    }
+
+    /// Whether two keys are one: numbers by value, texts by their bytes.
+    pub fn is_same(&self, other: &Key) -> bool
+        ensures { result ≡ is_same_key self.now other.now }
+    {
+        match (self, other) {
+            (Key::Number(one), Key::Number(other)) => one == other,
+            (Key::Text(one), Key::Text(other)) => one == other,
+            _ => false,
         }
     }
 
