@@ -1,56 +1,75 @@
--- The places of a phrase in bytes, by searches for the first one.
-use Rattle.std.proofs.Common.{ℕ, zero, suc, ◌≡◌, ◌<◌, ◌≤◌, ◌+◌, true, false, List, [], ◌∷◌, length, drop, refl, ◌∙◌, arith, nat_eq, ⊎_elim}
+-- The places of a phrase in bytes, by searches for it.
+use Rattle.std.proofs.Common.{ℕ, ◌≡◌, ◌<◌, ◌≤◌, ◌+◌, ◌-◌, true, false, cond, List, [], ◌∷◌, length, take, drop, sym, ap, ◌∙◌, arith, nat_eq, ⊎_elim}
 use Rattle.std.proofs.lemmas.Bool.{cases_Bool}
 use Rattle.std.proofs.lemmas.Bool.Decides.{Decides-eqb}
-use Rattle.std.proofs.lemmas.List.Prefix.{front_fits, front_reads}
-use Rattle.std.proofs.lemmas.Slice.Eq.{starts_is}
+use Rattle.std.proofs.lemmas.List.{length-drop, length-take, length-take-le, take-take, take_all, drop-drop, drop_all}
 use Rattle.std.specs.List.{starts_with}
 use Rattle.memchr.specs.Find.{OccursAt}
-use Rattle.memchr.proofs.lemmas.MatchLemmas.{OccursAt-split}
+use Rattle.memchr.proofs.lemmas.MatchLemmas.{OccursAt-part, OccursAt-from_part}
+use Rattle.gr_tokens.specs.Inside.Periods.{IsPeriod}
 use Rattle.gr_tokens.specs.Places.{places}
-use Rattle.gr_tokens.proofs.PlaceSteps.{places-empty, places-cons_yes, places-cons_no}
+use Rattle.gr_tokens.proofs.PlaceSteps.{places-empty, places-cons_yes}
+use Rattle.gr_tokens.proofs.Shifts.{starts-take, take-starts, places-skip, places-shift}
 
-module _ (phrase : List ℕ) where
-  -- bytes that begin with the phrase
-  OccursAt-start : (bytes : List ℕ) → starts_with nat_eq bytes phrase ≡ true → OccursAt bytes phrase 0
-  OccursAt-start bytes begins =
-      let split = (starts_is Decides-eqb bytes phrase (starts_with nat_eq bytes phrase) refl).0 begins in
-      let within : length phrase ≤ length bytes = front_fits bytes phrase _ split in
-      record {
-        fits = omega arith;
-        reads = λ j below. let at : 0 + j ≡ j = omega arith in rw at (front_reads 0 bytes phrase _ split j below);
-      }
+-- a place that a search finds
+pub OccursAt-starts : (bytes phrase : List ℕ) (k : ℕ) → OccursAt bytes phrase k → starts_with nat_eq (drop k bytes) phrase ≡ true
+OccursAt-starts bytes phrase k occurs = take-starts nat_eq Decides-eqb (drop k bytes) phrase (OccursAt-part bytes phrase k occurs)
 
-  starts-occurs : (bytes : List ℕ) → OccursAt bytes phrase 0 → starts_with nat_eq bytes phrase ≡ true
-  starts-occurs bytes occurs = (starts_is Decides-eqb bytes phrase (starts_with nat_eq bytes phrase) refl).1 _ (OccursAt-split bytes phrase 0 occurs)
+starts-occurs : (bytes phrase : List ℕ) (k : ℕ) → k + length phrase ≤ length bytes → starts_with nat_eq (drop k bytes) phrase ≡ true → OccursAt bytes phrase k
+starts-occurs bytes phrase k fits begins = OccursAt-from_part bytes phrase k fits (starts-take nat_eq Decides-eqb (drop k bytes) phrase begins)
 
-  -- a place behind the first byte
-  OccursAt-cons : (x : ℕ) (xs : List ℕ) (k : ℕ) → OccursAt xs phrase k → OccursAt (x ∷ xs) phrase (suc k)
-  OccursAt-cons x xs k occurs = record {
-    fits = omega (arith, occurs.fits);
-    reads = λ j below. let at : suc k + j ≡ suc (k + j) = omega arith in rw at (occurs.reads j below);
-  }
+-- a phrase that begins a list is no longer than it
+pub starts-fits : (bytes phrase : List ℕ) → starts_with nat_eq bytes phrase ≡ true → length phrase ≤ length bytes
+starts-fits bytes phrase begins =
+    let same = ap length (starts-take nat_eq Decides-eqb bytes phrase begins) in
+    omega (arith, length-take (length phrase) bytes, same)
 
-  OccursAt-tail : (x : ℕ) (xs : List ℕ) (k : ℕ) → OccursAt (x ∷ xs) phrase (suc k) → OccursAt xs phrase k
-  OccursAt-tail x xs k occurs = record {
-    fits = omega (arith, occurs.fits);
-    reads = λ j below. let at : suc k + j ≡ suc (k + j) = omega arith in rw at at (occurs.reads j below);
-  }
+module _ (phrase : List ℕ) (some : 0 < length phrase) (bytes : List ℕ) where
+  differs : (k : ℕ) → ¬ OccursAt bytes phrase k → starts_with nat_eq (drop k bytes) phrase ≡ false
+  differs k none =
+      ⊎_elim
+      (λ begins.
+      let fits = starts-fits (drop k bytes) phrase begins in
+      let left = length-drop k bytes in
+      absurd (none (starts-occurs bytes phrase k (omega arith) begins)))
+      (λ e. e)
+      (cases_Bool (starts_with nat_eq (drop k bytes) phrase))
 
-  differs : (bytes : List ℕ) → ¬ OccursAt bytes phrase 0 → starts_with nat_eq bytes phrase ≡ false
-  differs bytes none = ⊎_elim (λ begins. absurd (none (OccursAt-start bytes begins))) (λ e. e) (cases_Bool (starts_with nat_eq bytes phrase))
+  -- the places from the first one on
+  pub places-first : (k : ℕ) → ((j : ℕ) → j < k → ¬ OccursAt bytes phrase j) → places nat_eq bytes phrase ≡ places nat_eq (drop k bytes) phrase
+  places-first k before = places-skip nat_eq Decides-eqb phrase some k bytes (λ q below. differs q (before q below))
 
   -- where the phrase stands nowhere
-  pub places-none : (bytes : List ℕ) → 0 < length phrase → ((k : ℕ) → k < length bytes → ¬ OccursAt bytes phrase k) → places nat_eq bytes phrase ≡ 0
-  places-none [] some none = places-empty nat_eq phrase
-  places-none (x ∷ xs) some none =
-      places-cons_no nat_eq x xs phrase some (differs (x ∷ xs) (none 0 (omega arith)))
-      ∙ places-none xs some (λ k below occurs. none (suc k) (omega arith) (OccursAt-cons x xs k occurs))
+  pub places-none : ((k : ℕ) → k < length bytes → ¬ OccursAt bytes phrase k) → places nat_eq bytes phrase ≡ 0
+  places-none none =
+      places-first (length bytes) none
+      ∙ ap (λ l. places nat_eq l phrase) (drop_all (length bytes) bytes (omega arith))
+      ∙ places-empty nat_eq phrase
 
-  -- the first place, and those behind its first byte
-  pub places-first : (bytes : List ℕ) (k : ℕ) → 0 < length phrase → ((j : ℕ) → j < k → ¬ OccursAt bytes phrase j) → OccursAt bytes phrase k → places nat_eq bytes phrase ≡ 1 + places nat_eq (drop (suc k) bytes) phrase
-  places-first [] k some before occurs = absurd (omega (arith, occurs.fits))
-  places-first (x ∷ xs) zero some before occurs = places-cons_yes nat_eq x xs phrase some (starts-occurs (x ∷ xs) occurs)
-  places-first (x ∷ xs) (suc k) some before occurs =
-      places-cons_no nat_eq x xs phrase some (differs (x ∷ xs) (before 0 (omega arith)))
-      ∙ places-first xs k some (λ j below here. before (suc j) (omega arith) (OccursAt-cons x xs j here)) (OccursAt-tail x xs k occurs)
+-- a phrase that begins some bytes has a place in them
+pub starts-places : (bytes phrase : List ℕ) → 0 < length phrase → starts_with nat_eq bytes phrase ≡ true → 1 ≤ places nat_eq bytes phrase
+starts-places [] phrase some begins = absurd (omega (arith, starts-fits [] phrase begins))
+starts-places (x ∷ xs) phrase some begins = let first = places-cons_yes nat_eq x xs phrase some begins in omega arith
+
+-- a place at the beginning, and those that are not too near to it
+pub places-after : (phrase : List ℕ) (apart : ℕ) (bytes : List ℕ) → 0 < length phrase → starts_with nat_eq bytes phrase ≡ true → 0 < apart → apart ≤ length phrase → ((q : ℕ) → 0 < q → q < apart → ¬ IsPeriod phrase (length phrase) q) → places nat_eq bytes phrase ≡ 1 + places nat_eq (drop apart bytes) phrase
+places-after phrase apart bytes some begins low high none =
+    let fits = starts-fits bytes phrase begins in
+    let same = starts-take nat_eq Decides-eqb bytes phrase begins ∙ sym (take_all (length phrase) phrase (omega arith)) in
+    places-shift nat_eq Decides-eqb (length phrase) apart bytes phrase some (omega arith) (omega arith) same low (omega arith) none
+    ∙ ap (λ b. cond b 1 0 + places nat_eq (drop apart bytes) phrase) begins
+
+-- a phrase that stands over itself has its first part there
+pub IsPeriod-occurs : (phrase : List ℕ) (half q : ℕ) → 0 < q → q + half ≤ length phrase → IsPeriod phrase (length phrase) q → OccursAt (drop 1 phrase) (take half phrase) (q - 1)
+IsPeriod-occurs phrase half q some fits period =
+    let n : ℕ = length phrase in
+    let part : length (take half phrase) ≡ half = length-take-le half phrase (omega arith) in
+    let left : length (drop 1 phrase) ≡ n - 1 = length-drop 1 phrase in
+    let on : 1 + (q - 1) ≡ q = omega arith in
+    let shorter : half ≤ n - q = omega arith in
+    OccursAt-from_part (drop 1 phrase) (take half phrase) (q - 1) (omega arith)
+    (ap (λ k. take k (drop (q - 1) (drop 1 phrase))) part
+    ∙ ap (take half) (drop-drop (q - 1) 1 phrase ∙ ap (λ k. drop k phrase) on)
+    ∙ sym (take-take half (n - q) (drop q phrase) shorter)
+    ∙ ap (take half) period.again
+    ∙ take-take half (n - q) phrase shorter)

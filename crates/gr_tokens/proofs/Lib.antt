@@ -1,7 +1,11 @@
 pub mod PlaceSteps
+pub mod Shifts
+pub mod Passing
+pub mod PeriodLemmas
 pub mod BytePlaces
 pub mod CharacterBytes
+pub mod FurtherBytes
 pub mod SpaceLemmas
 pub mod WordLemmas
-pub mod PhraseWords
+pub mod SameWords
 pub mod BigramLemmas

@@ -1,5 +1,5 @@
 -- The words of a text, one piece between spaces after the other.
-use Rattle.std.proofs.Common.{ℕ, suc, ◌≡◌, ◌≤◌, Bool, true, false, cond, List, [], ◌∷◌, length, ap, ◌∙◌, arith, filter, sum_by}
+use Rattle.std.proofs.Common.{ℕ, suc, ◌≡◌, ◌≤◌, Bool, true, false, cond, List, [], ◌∷◌, length, refl, ap, ◌∙◌, arith, filter, sum_by}
 use Rattle.std.proofs.lemmas.Bool.{cond_both, leb-true}
 use Rattle.std.proofs.str.Laws.{both}
 use Rattle.std.proofs.lemmas.List.Sums.{sum_by-cons}
@@ -56,3 +56,8 @@ length-filter (piece ∷ pieces) =
 pub length-words : (text : List ℕ) → length (words text) ≤ length text
 unfolding words
 length-words text = omega (arith, length-filter (slice_split is_space text), length-pieces is_space text)
+
+-- an empty text has no word
+pub words-empty : words [] ≡ []
+unfolding words
+words-empty = refl

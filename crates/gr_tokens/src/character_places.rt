@@ -1,9 +1,12 @@
 // The places of a phrase by characters. They are its places by bytes, since no character begins inside another.
-ghost use Rattle.std.specs.Prelude.{◌≡◌, ◌+◌, ◌<◌, IfSome, MatchOption, length, min, nat_eq};
+ghost use Rattle.std.specs.Prelude.{◌≡◌, ◌+◌, ◌<◌, ◌≤◌, IfSome, MatchOption, length, min, nat_eq, true};
+ghost use Rattle.std.specs.List.{starts_with};
 ghost use Rattle.std.specs.Str.{chars};
+ghost use Rattle.gr_tokens.specs.Inside.Overlaps.{IsOverlap};
 ghost use Rattle.gr_tokens.specs.Places.{places};
 
 use super::count::one_more;
+use super::overlap::Overlap;
 use memchr::memmem::Finder;
 
 /// At how many characters of the text the phrase's characters begin.
@@ -20,23 +23,57 @@ fn byte_places(text: &[u8], phrase: &[u8]) -> u32
         return 0;
     }
     let finder = Finder::new(phrase);
-    let mut count = 0;
-    let mut rest = text;
-    while let Some(after) = after_first(&finder, rest) {
+    match first_place(&finder, text) {
+        Some(first) => places_from(&finder, &Overlap::of(phrase), first),
+        None => 0,
+    }
+}
+
+// The places in a text that begins with one.
+fn places_from(phrase: &Finder<'_>, overlap: &Overlap<'_>, text: &[u8]) -> u32
+    requires some { 0 < length phrase.now }
+    requires overlap { IsOverlap phrase.now overlap.now }
+    requires here { starts_with nat_eq text.now phrase.now ≡ true }
+    ensures { result ≡ min (places nat_eq text.now phrase.now) 2147483647 }
+{
+    let mut count = 1;
+    let mut here = text;
+    while let Some(next) = next_place(phrase, overlap, here) {
         count = one_more(count);
-        rest = after;
+        here = next;
     }
     count
 }
 
-// The bytes after the first byte of the first place, so that the next place may overlap this one.
-fn after_first<'a>(phrase: &Finder<'_>, text: &'a [u8]) -> Option<&'a [u8]>
+// The bytes from the second place on, where the text begins with the first.
+fn next_place<'a>(phrase: &Finder<'_>, overlap: &Overlap<'_>, text: &'a [u8]) -> Option<&'a [u8]>
+    requires some { 0 < length phrase.now }
+    requires overlap { IsOverlap phrase.now overlap.now }
+    requires here { starts_with nat_eq text.now phrase.now ≡ true }
+    ensures places { MatchOption result
+        (places nat_eq text.now phrase.now ≡ 1)
+        (λ next. places nat_eq text.now phrase.now ≡ 1 + places nat_eq next.now phrase.now) }
+    ensures here { IfSome result (λ next. starts_with nat_eq next.now phrase.now ≡ true) }
+    ensures shorter { IfSome result (λ next. length next.now < length text.now) }
+{
+    let next = &text[overlap.apart..];
+    if let Some(tail) = overlap.tail {
+        if text[phrase.needle().len()..].starts_with(tail) {
+            return Some(next);
+        }
+    }
+    first_place(phrase, next)
+}
+
+// The bytes from the first place on.
+fn first_place<'a>(phrase: &Finder<'_>, text: &'a [u8]) -> Option<&'a [u8]>
     requires { 0 < length phrase.now }
     ensures places { MatchOption result
         (places nat_eq text.now phrase.now ≡ 0)
-        (λ after. places nat_eq text.now phrase.now ≡ 1 + places nat_eq after.now phrase.now) }
-    ensures shorter { IfSome result (λ after. length after.now < length text.now) }
+        (λ first. places nat_eq text.now phrase.now ≡ places nat_eq first.now phrase.now) }
+    ensures here { IfSome result (λ first. starts_with nat_eq first.now phrase.now ≡ true) }
+    ensures no_longer { IfSome result (λ first. length first.now ≤ length text.now) }
 {
     let at = phrase.find(text)?;
-    Some(&text[at + 1..])
+    Some(&text[at..])
 }

@@ -2,6 +2,7 @@
 ghost use Rattle.std.specs.Prelude.{◌≡◌, ◌∷◌, ◌<◌, ◌≤◌, [], IfSome, IsUtf8, MatchOption, length};
 ghost use Rattle.std.specs.Iterator.{YieldsFirstRef, item_count};
 ghost use Rattle.std.specs.List.{slice_split};
+ghost use Rattle.memchr.specs.Find.{IsFirstByte, is_byte};
 ghost use Rattle.gr_tokens.specs.Tokens.{is_space, is_word, tokens, words};
 
 use super::Tokenizer;
@@ -10,6 +11,9 @@ use std::marker::Model;
 
 /// The most bytes that a word may have.
 const LONGEST_WORD: usize = 4096;
+
+/// The bytes of a word that are looked at one by one, before a search for a space begins.
+pub(crate) const SHORT_WORD: usize = 16;
 
 /// The words of a text in order, as slices of it.
 #[derive(Drop)]
@@ -85,8 +89,22 @@ fn cut_at_space(text: &str) -> Option<(&str, &str)>
     ensures shorter { IfSome result (λ parts. length parts.1.now < length text.now) }
     ensures utf8 { IfSome result (λ parts. IsUtf8 parts.1.now) }
 {
-    let at = memchr(b' ', text.as_bytes())?;
+    let at = first_space(text.as_bytes())?;
     Some((&text[..at], &text[at + 1..]))
+}
+
+// Where the first space stands. Most words are short, so the first bytes are looked at one by one.
+fn first_space(text: &[u8]) -> Option<usize>
+    ensures { IsFirstByte (is_byte 32) text.now result }
+{
+    let near = text.len().min(SHORT_WORD);
+    for at in 0..near {
+        if text[at] == b' ' {
+            return Some(at);
+        }
+    }
+    let further = memchr(b' ', &text[near..])?;
+    Some(near + further)
 }
 
 fn is_word(piece: &str) -> bool

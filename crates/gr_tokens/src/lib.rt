@@ -5,10 +5,15 @@ mod bigram;
 mod character_places;
 mod count;
 mod delimit;
+mod overlap;
+mod periods;
 mod phrase;
+mod phrase_periods;
+mod same_word;
 #[cfg(test)]
 mod tests;
 mod tokenizer;
+mod word_match;
 mod word_places;
 
 pub use bigram::Bigram;

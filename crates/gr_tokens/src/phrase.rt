@@ -16,6 +16,10 @@ pub enum How {
 
 /// At how many places the phrase stands in the text, overlapping ones included. A count above
 /// 2,147,483,647 is given as that number.
+///
+/// It takes no memory, and time linear in the text and the phrase. By words, what stands between the words of the
+/// phrase beside one space (further spaces, and pieces that are too long for a word) is passed anew each time that the
+/// phrase is: it is short in phrases that people write.
 pub fn phrase_places(how: How, text: &str, phrase: &str) -> u32
     ensures { result ≡ min (occurrences how text.now phrase.now) 2147483647 }
 {

@@ -4,6 +4,7 @@ ghost use Rattle.gr_tokens.specs.Tokens.{tokens};
 
 use super::*;
 use std::alloc::{AllocError, Global};
+use std::process::Abort;
 use std::test::Fail;
 
 // The words of a text, by a loop that knows them.
@@ -249,4 +250,134 @@ fn places_overlap_and_stand_one_after_the_other(rt: HostRuntime) {
         let places = phrase_places(found.how, found.text, found.phrase);
         assert_eq!(rt; places, found.places, "{:?} {:?}", found.how, found.phrase);
     }
+}
+
+// Letters of a text or a phrase: one for each bit, and after each of them so many spaces.
+fn letters(alloc: Global, count: u32, bits: u32, spaces: usize) -> Result<String, AllocError> {
+    let mut text = String::new(alloc);
+    for i in 0..count {
+        text.push(if bits >> (i % 32) & 1 == 0 { 'a' } else { 'b' })?;
+        for _ in 0..spaces {
+            text.push(' ')?;
+        }
+    }
+    Ok(text)
+}
+
+// At how many places of some letters others stand.
+fn plain_count(text: u32, length: u32, phrase: u32, phrase_length: u32) -> u32 {
+    let mut places: u32 = 0;
+    for i in 0..length {
+        if i.saturating_add(phrase_length) <= length
+            && (text >> (i % 32)) % (1 << (phrase_length % 32)) == phrase
+        {
+            places = places.saturating_add(1);
+        }
+    }
+    places
+}
+
+// The places of a phrase of so many letters, in each text of up to 10.
+fn small_texts(rt: &impl Abort, alloc: Global, length: u32, bits: u32) -> Result<(), AllocError> {
+    let phrase = letters(alloc, length, bits, 0)?;
+    let words = letters(alloc, length, bits, 1)?;
+    for text_length in 0..11u32 {
+        for text_bits in 0..(1u32 << (text_length % 32)) {
+            let text = letters(alloc, text_length, text_bits, 0)?;
+            let spaced = letters(alloc, text_length, text_bits, 2)?;
+            let wanted = plain_count(text_bits, text_length, bits, length);
+            assert_eq!(rt;
+                phrase_places(How::Chars, &text, &phrase),
+                wanted,
+                "{phrase} in {text}"
+            );
+            assert_eq!(rt;
+                phrase_places(How::Words, &spaced, &words),
+                wanted,
+                "{phrase} in {spaced}"
+            );
+        }
+    }
+    Ok(())
+}
+
+#[test]
+fn places_in_all_small_texts_of_two_letters(rt: HostRuntime) -> Result<(), Fail> {
+    for length in 1..8u32 {
+        for bits in 0..(1u32 << (length % 32)) {
+            small_texts(&rt, rt.alloc(), length, bits)?;
+        }
+    }
+    Ok(())
+}
+
+// The first letters of a word, each of them with so many spaces after it.
+fn first_letters(
+    alloc: Global,
+    word: &str,
+    count: usize,
+    spaces: usize,
+) -> Result<String, AllocError> {
+    let mut text = String::new(alloc);
+    for letter in word.chars().take(count) {
+        text.push(letter)?;
+        for _ in 0..spaces {
+            text.push(' ')?;
+        }
+    }
+    Ok(text)
+}
+
+// The places of the first half of 100,000 letters in all of them.
+fn half_in_whole(
+    rt: &impl Abort,
+    alloc: Global,
+    word: &str,
+    wanted: u32,
+) -> Result<(), AllocError> {
+    let text = first_letters(alloc, word, 100_000, 0)?;
+    let half = first_letters(alloc, word, 50_000, 0)?;
+    assert_eq!(rt; phrase_places(How::Chars, &text, &half), wanted);
+    let text = first_letters(alloc, word, 100_000, 1)?;
+    let half = first_letters(alloc, word, 50_000, 2)?;
+    assert_eq!(rt; phrase_places(How::Words, &text, &half), wanted);
+    Ok(())
+}
+
+// From a and b on, each of these words is the one before, and the one before that.
+fn fibonacci(alloc: Global) -> Result<String, AllocError> {
+    let mut before = String::from_str(alloc, "b")?;
+    let mut word = String::from_str(alloc, "a")?;
+    for _ in 0..25 {
+        let mut next = String::from_str(alloc, &word)?;
+        next.push_str(&before)?;
+        before = word;
+        word = next;
+    }
+    Ok(word)
+}
+
+// Letters of a register of 24 bits with feedback: no 24 of them come twice.
+fn de_bruijn(alloc: Global) -> Result<String, AllocError> {
+    let mut letters = String::new(alloc);
+    let mut register = 1u32;
+    for _ in 0..100_000 {
+        letters.push(if register & 1 == 0 { 'a' } else { 'b' })?;
+        let bit = (register ^ (register >> 1) ^ (register >> 2) ^ (register >> 7)) & 1;
+        register = (register >> 1) | (bit << 23);
+    }
+    Ok(letters)
+}
+
+#[test]
+fn half_of_a_long_text_is_found_at_once(rt: HostRuntime) -> Result<(), Fail> {
+    let alloc = rt.alloc();
+    let mut one_letter = String::new(alloc);
+    for _ in 0..100_000 {
+        one_letter.push('a')?;
+    }
+    half_in_whole(&rt, alloc, &one_letter, 50_001)?;
+    half_in_whole(&rt, alloc, &fibonacci(alloc)?, 2)?;
+    half_in_whole(&rt, alloc, &de_bruijn(alloc)?, 1)?;
+    Ok(())
 }

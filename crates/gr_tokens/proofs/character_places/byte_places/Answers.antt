@@ -1,4 +1,4 @@
--- Without bytes in the phrase, and where no place is left.
+-- Without bytes in the phrase.
 use Rattle.std.proofs.Common.{nat_eq, sym, arith}
 use Rattle.std.proofs.lemmas.Bool.{eqb-true}
 use Rattle.gr_tokens.proofs.PlaceSteps.{places-no_elements}
@@ -8,9 +8,3 @@ pub returns-then-is_empty : goal.returns-then-is_empty
 returns-then-is_empty c =
     let none = places-no_elements nat_eq c.args.text.now c.args.phrase.now (eqb-true _ _ (sym c.if-is_empty.ensures)) in
     omega (arith, none)
-
-pub returns : goal.returns
-returns c =
-    let none = c.in_default.ensures.places in
-    let phrase_is = c.new-finder.ensures in
-    let last = rw phrase_is at none in omega (arith, last)

@@ -1,39 +1,60 @@
--- A word of the text where the phrase begins, and one where it does not.
-use Rattle.std.proofs.Common.{◌≡◌, ap, sym, ◌∙◌, length, arith}
+-- A place is counted where the whole phrase matches, and none is passed over.
+use Rattle.std.proofs.Common.{◌≡◌, ◌<◌, ◌+◌, cond, length, drop, sym, ap, ap₂, ◌∙◌, arith}
+use Rattle.std.proofs.lemmas.Slice.Eq.{bytes_eq-Decides}
 use Rattle.std.specs.Str.{bytes_eq}
 use Rattle.gr_tokens.specs.Places.{places}
 use Rattle.gr_tokens.specs.Tokens.{words}
-use Rattle.gr_tokens.proofs.PhraseWords.{places-here, places-other, places-cut}
-use Rattle.gr_tokens.proofs.PlaceSteps.{places-no_elements, places-empty}
+use Rattle.gr_tokens.proofs.Passing.{places-passed, places-short, starts-no, starts-yes}
+use Rattle.gr_tokens.proofs.PlaceSteps.{places-no_elements}
 use Rattle.gr_tokens.proofs.word_places.word_places.Goals as goal
-use Rattle.gr_tokens.proofs.word_places.word_places.Goals.{else-eq-via-then-eq+else-begins_with, else-eq-via-else-eq}
+use Rattle.gr_tokens.proofs.word_places.word_places.Goals.{in-Whole, in-Differs}
 
 pub returns-in_default : goal.returns-in_default
 returns-in_default c =
     let none = places-no_elements bytes_eq (words c.args.text.now) (words c.args.phrase.now) (ap length c.in_default.ensures) in
     omega (arith, none)
 
-pub loop-word-preserved-then-begins_with : goal.loop-word-preserved-then-begins_with
-loop-word-preserved-then-begins_with c =
-    let begins = rw c.rest.ensures at (sym c.if-begins_with.ensures) in
-    let place = places-here c.in-Some-next.word.now c.in-Some.first.now c.loop-word.left c.next.new.self (words c.args.phrase.now) (words c.in-Some.others.now) c.in-Some-next.ensures.steps c.in-Some.ensures (sym c.if-eq.ensures) begins in
-    let counted = c.one_more-count.ensures in
-    (omega arith, omega (arith, place, c.loop-word.invariant.1))
+pub returns-in-End : goal.returns-in-End
+returns-in-End c =
+    let stops = c.in-End.ensures.stops in
+    let text_is = ap length (ap words c.extend.ensures.text) in
+    let phrase_is = ap length (ap words (c.extend.ensures.phrase ∙ c.loop-count.invariant.phrase)) in
+    let none = places-short bytes_eq bytes_eq-Decides (words c.args.phrase.now) (words c.loop-count.here.text.now) (omega (arith, stops, text_is, phrase_is)) in
+    omega (arith, none, c.loop-count.invariant.most, c.loop-count.invariant.counted)
 
-pub loop-word-preserved : goal.loop-word-preserved
-loop-word-preserved c =
-    let none : places bytes_eq c.loop-word.left (words c.args.phrase.now) ≡ places bytes_eq c.next.new.self (words c.args.phrase.now) =
-    elim c.else-eq.branch [
-      | else-eq-via-then-eq+else-begins_with w ↦
-          let differs = rw w.rest.ensures at (sym w.if-begins_with.ensures) in
-          places-cut c.in-Some-next.word.now c.in-Some.first.now c.loop-word.left c.next.new.self (words c.args.phrase.now) (words c.in-Some.others.now) c.in-Some-next.ensures.steps c.in-Some.ensures differs
-      | else-eq-via-else-eq w ↦
-          places-other c.in-Some-next.word.now c.in-Some.first.now c.loop-word.left c.next.new.self (words c.args.phrase.now) (words c.in-Some.others.now) c.in-Some-next.ensures.steps c.in-Some.ensures (sym w.if-eq.ensures)
-    ] in
-    (c.loop-word.invariant.0, omega (arith, none, c.loop-word.invariant.1))
-
-pub returns : goal.returns
-returns c =
-    let left_is = c.in_default-next.ensures.steps.0 in
-    let none = ap (λ left. places bytes_eq left (words c.args.phrase.now)) left_is ∙ places-empty bytes_eq (words c.args.phrase.now) in
-    omega (arith, none, c.loop-word.invariant.1)
+pub loop-count-preserved : goal.loop-count-preserved
+loop-count-preserved c =
+    let text = words c.extend.new.self.text.now in
+    let phrase = words c.extend.new.self.phrase.now in
+    let k = c.extend.new.self.matched in
+    let s = c.shift.result in
+    let is_match = c.extend.ensures.is_match in
+    let phrase_is : phrase ≡ words c.args.phrase.now = ap words (c.extend.ensures.phrase ∙ c.loop-count.invariant.phrase) in
+    let before_is : places bytes_eq (words c.loop-count.here.text.now) (words c.args.phrase.now) ≡ places bytes_eq text phrase = sym (ap₂ (places bytes_eq) (ap words c.extend.ensures.text) phrase_is) in
+    let after_is : places bytes_eq (words c.shift.new.self.text.now) (words c.args.phrase.now) ≡ places bytes_eq (drop s text) phrase = ap₂ (places bytes_eq) c.shift.ensures.text (sym phrase_is) in
+    let some : 0 < length phrase = let first = ap length (phrase_is ∙ c.in-Some.ensures) in omega arith in
+    let before = c.loop-count.invariant.counted in
+    let phrase_same = c.shift.ensures.phrase ∙ c.extend.ensures.phrase ∙ c.loop-count.invariant.phrase in
+    elim c.match-extend.branch [
+      | in-Whole w ↦
+          let whole = w.in-Whole.ensures.stops in
+          let begins = starts-yes bytes_eq bytes_eq-Decides k text phrase whole is_match.same in
+          let split = places-passed bytes_eq bytes_eq-Decides phrase text k s some is_match.in_phrase c.shift.ensures.low (omega (arith, is_match.in_text)) c.shift.ensures.passed ∙ ap (λ b. cond b 1 0 + places bytes_eq (drop s text) phrase) begins in
+          let counted = w.one_more-count.ensures in
+          record {
+            is_match = c.shift.ensures.is_match;
+            phrase = phrase_same;
+            most = omega (arith, w.count-is, counted);
+            counted = omega (arith, w.count-is, counted);
+          }
+      | in-Differs w ↦
+          let stops = w.in-Differs.ensures.stops in
+          let differs = starts-no bytes_eq bytes_eq-Decides (k + 1) text phrase (omega (arith, stops.1)) stops.2 in
+          let split = places-passed bytes_eq bytes_eq-Decides phrase text k s some is_match.in_phrase c.shift.ensures.low (omega (arith, stops.0)) c.shift.ensures.passed ∙ ap (λ b. cond b 1 0 + places bytes_eq (drop s text) phrase) differs in
+          record {
+            is_match = c.shift.ensures.is_match;
+            phrase = phrase_same;
+            most = omega (arith, w.count-is, c.loop-count.invariant.most);
+            counted = omega (arith, w.count-is);
+          }
+    ]

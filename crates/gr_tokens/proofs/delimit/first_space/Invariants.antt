@@ -1,0 +1,6 @@
+-- No space stands before.
+use Rattle.memchr.specs.Find.{Nowhere, Passes, is_byte}
+use Rattle.gr_tokens.proofs.delimit.first_space.Given as goal
+
+abbrev pub invariant-loop-at : goal.invariant-loop-at
+invariant-loop-at l = Nowhere (Passes (is_byte 32) l.text) 0 l.at
