@@ -1,0 +1,4 @@
+pub mod Positions
+pub mod Numbers
+pub mod Postings
+pub mod Inside
