@@ -1,0 +1,6 @@
+mod Blocks
+mod CellKinds
+mod KeptCells
+mod Outcomes
+mod Scans
+mod Words
