@@ -1,4 +1,6 @@
 // What no clause says: that threads may share typed trees, and that a search is copied where there is memory.
+mod rules;
+
 use super::*;
 use gr_base::{Bytes, ColumnNo, ListOf, TableNo};
 use gr_values::{DataType, Field, Hop, Path, Shape};

@@ -1,0 +1,5 @@
+pub mod Counting
+pub mod Hops
+pub mod Joining
+pub mod Opening
+pub mod Utf8
