@@ -1,7 +1,9 @@
 // bench_parts COUNT: how fast vectors and lanes are beside std's, in one run. With no word it goes over a few elements, and prints no times.
 #![tactic(auto)]
 
+mod keys;
 mod lanes;
+mod names;
 mod timed;
 mod vectors;
 
@@ -16,5 +18,7 @@ fn main(rt: HostRuntime) -> Result<(), Failed> {
     };
     vectors::all(&rt, rt.alloc(), count)?;
     lanes::all(&rt, rt.alloc(), count)?;
+    keys::all(&rt, rt.alloc(), count)?;
+    names::all(&rt, rt.alloc(), count)?;
     Ok(())
 }
