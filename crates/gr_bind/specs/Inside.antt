@@ -1,0 +1,4 @@
+pub mod Told
+pub mod Names
+pub mod Literals
+pub mod Parts

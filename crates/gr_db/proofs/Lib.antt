@@ -1,0 +1,3 @@
+pub mod ByColumnLemmas
+pub mod WantsLemmas
+pub mod NewIndexLemmas

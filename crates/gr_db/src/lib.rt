@@ -1,0 +1,21 @@
+// The journal's entries, and what each does to a database of plain lists.
+#![tactic(auto)]
+
+mod entry;
+mod index_wants;
+mod journal;
+mod keeping;
+mod references;
+mod sorted;
+#[cfg(test)]
+mod tests;
+mod tokens;
+mod want;
+
+pub use entry::{Change, Entry, Settings, Which};
+pub use index_wants::new_index_wants;
+pub use journal::Journal;
+pub use keeping::{counts, id_which, kept, own_id};
+pub use references::{column_target, record_wants};
+pub use tokens::token_wants;
+pub use want::{Added, Want};

@@ -1,0 +1,6 @@
+pub mod ChangeLemmas
+pub mod KeysLemmas
+pub mod TablesLemmas
+pub mod WalkLemmas
+pub mod SetLemmas
+pub mod FitLemmas

@@ -1,0 +1,7 @@
+pub mod Sound
+pub mod Shared
+pub mod Working
+pub mod Walk
+pub mod Make
+pub mod Change
+pub mod Put

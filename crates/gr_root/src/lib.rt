@@ -1,0 +1,12 @@
+// The state: what the journal's entries made, ready to be read and to take one entry more.
+#![tactic(auto)]
+
+mod delete;
+mod make;
+mod put;
+mod root;
+mod shared_schema;
+mod walk;
+mod working;
+
+pub use root::Root;
