@@ -1,18 +1,44 @@
 // Puts.
-ghost use Rattle.std.specs.Prelude.{◌≡◌, true, OnOk, is_some};
+ghost use Rattle.std.specs.Prelude.{◌≡◌, ◌++◌, IfErr, IfOk, OnOk, fold, map};
 ghost use Rattle.std.specs.List.{AllByRecursion};
-ghost use Rattle.gr_db.specs.Entry.{IsSetting};
+ghost use Rattle.gr_db.specs.Apply.{with_setting};
+ghost use Rattle.gr_db.specs.Changed.{own_place, place_of};
+ghost use Rattle.gr_db.specs.Entry.{IsPut, IsSetting};
+ghost use Rattle.gr_db.specs.declared.entry.Change.TheVariants.{Put};
+ghost use Rattle.gr_root.specs.Inside.Make.{IsBase, Makes};
 ghost use Rattle.gr_root.specs.Inside.Put.{IsSet, IsSetAll};
-ghost use Rattle.gr_root.specs.Inside.Sound.{AreFormed};
-ghost use Rattle.gr_schema.specs.Schema.{table_at};
+ghost use Rattle.gr_root.specs.Inside.Sound.{AreFormed, AreWithin};
+ghost use Rattle.gr_root.specs.Inside.Walk.{db_of};
 
+use crate::make::{Made, Places};
+use crate::shared_schema::SharedSchema;
+use crate::walk::walk;
 use crate::working::WorkingTables;
-use gr_base::{ColumnNo, NoMemory, RecordId, TableNo};
-use gr_db::{column_target, kept};
+use gr_base::{ColumnNo, Failure, Fault, Limits, ListOf, NoMemory, RecordId, TableNo};
+use gr_db::{Added, column_target, kept, own_id, record_wants, token_wants};
 use gr_expr::Rows;
+use gr_pvec::PVec;
 use gr_schema::Schema;
-use gr_values::Given;
+use gr_table::TableRecords;
+use gr_values::{Given, Key};
 use std::alloc::Global;
+
+/// Finds or adds a record and those that it refers to, sets its cells, and adds tokens to lexicons.
+pub(crate) fn put(
+    alloc: Global,
+    limits: Limits,
+    schema: &SharedSchema,
+    tables: &PVec<TableRecords>,
+    table: TableNo,
+    key: Option<&Key>,
+    settings: &[(ColumnNo, Given)],
+) -> Result<Made, Failure<Fault>>
+    requires base { IsBase limits.records schema.now tables.now }
+    requires valid { IsPut schema.now table (option_copied key) settings.now }
+    ensures { (kept : Settings) → kept ≡ settings.now → Makes limits schema.now tables.now (Put table (option_copied key.entry) kept) result }
+{
+    unreachable!()
+}
 
 // Sets cells of a record.
 fn set_all(

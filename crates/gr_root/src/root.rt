@@ -94,6 +94,16 @@ impl Root {
         self.merges
     }
 
+    /// The state with one entry more, or the first fault of the entry; this state stays as it was.
+    /// It takes the time of a path down the trees for each record that the entry adds or changes, and shares the rest.
+    pub fn applied(&self, alloc: Global, entry: Arc<Entry>) -> Result<Root, Failure<Fault>>
+        requires valid { IsValid (replay self.now.journal).schema (arc_value entry).change }
+        requires text { HoldsText (arc_value entry).change }
+        ensures { Applies self.now (arc_value entry) result }
+    {
+        unreachable!()
+    }
+
     /// The answer of `cell`, with one step.
     pub fn read(
         &self,
