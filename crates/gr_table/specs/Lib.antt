@@ -1,4 +1,3 @@
 pub mod Table
 pub mod Sound
 pub mod Masks
-pub mod Inside
