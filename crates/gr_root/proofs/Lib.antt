@@ -4,3 +4,5 @@ pub mod TablesLemmas
 pub mod WalkLemmas
 pub mod SetLemmas
 pub mod FitLemmas
+pub mod TokenLemmas
+pub mod PutLemmas
