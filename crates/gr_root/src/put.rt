@@ -38,7 +38,7 @@ pub(crate) fn put(
 ) -> Result<Made, Failure<Fault>>
     requires base { IsBase limits.records schema.now tables.now }
     requires valid { IsPut schema.now table (option_copied key) settings.now }
-    ensures { (kept : Settings) → kept ≡ settings.now → Makes limits schema.now tables.now (Put table (option_copied key.entry) kept) result }
+    ensures { (kept : List Setting) → kept ≡ settings.now → Makes limits schema.now tables.now (Put table (option_copied key.entry) kept) result }
 {
     let mut working = WorkingTables::new(tables.try_clone()?);
     let home = schema.get();
