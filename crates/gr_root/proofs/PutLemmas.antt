@@ -11,22 +11,21 @@ use Rattle.gr_base.specs.declared.fault.FaultKind.TheVariants.{TableFull}
 use Rattle.gr_base.specs.declared.numbers.Limits.{Limits}
 use Rattle.gr_base.specs.declared.numbers.RecordId.{RecordId}
 use Rattle.gr_base.specs.declared.numbers.TableNo.{TableNo}
-use Rattle.gr_db.specs.Apply.{apply, change_fault, own_id, put, with_setting}
-use Rattle.gr_db.specs.Changed.{Place, own_place, place_of, touched}
+use Rattle.gr_db.specs.Apply.{own_id, with_setting}
+use Rattle.gr_db.specs.Changed.{Place, own_place, place_of}
 use Rattle.gr_db.specs.Db.{Db}
 use Rattle.gr_db.specs.Wants.{Setting, added, all_added, all_wanted, first_full, given_in, is_there, put_wants, record_wants, token_wants, wanted}
 use Rattle.gr_db.specs.declared.entry.Change.TheVariants.{Put}
 use Rattle.gr_db.specs.declared.want.Added.{Added}
 use Rattle.gr_db.specs.declared.want.Want.{Want}
 use Rattle.gr_expr.specs.Tables.{record_id}
-use Rattle.gr_root.specs.Inside.Make.{IsMade, IsUnmade, Makes}
-use Rattle.gr_root.specs.Inside.Put.{IsPutIn, IsSetAll, PutsIn, own_at}
+use Rattle.gr_root.specs.Inside.Make.{IsMade, Makes}
+use Rattle.gr_root.specs.Inside.Put.{IsPutIn, IsSetAll, own_at}
 use Rattle.gr_root.specs.Inside.Sound.{AreFormed, AreWithin}
-use Rattle.gr_root.specs.Inside.Walk.{IsEnded, IsStopped, IsWalked, db_of}
+use Rattle.gr_root.specs.Inside.Walk.{IsEnded, IsWalked, db_of}
 use Rattle.gr_root.specs.declared.make.Made.{Made}
 use Rattle.gr_root.proofs.KeysLemmas.{AreAlike, all-added-alike, all-wanted-alike, full-alike, own-alike, settings-alike}
 use Rattle.gr_schema.specs.Schema.{SchemaDef, table_at}
-use Rattle.gr_schema.specs.declared.definition.TableDef.{TableDef}
 use Rattle.gr_table.specs.Table.{TableOf}
 use Rattle.gr_values.specs.declared.value.Key.{Key}
 
@@ -147,31 +146,31 @@ put-done limit schema old found set new table key settings id again news more pl
     let same_tokens : token_wants schema table settings news ≡ tokens = ap (token_wants schema table settings) first.added in
     let after : db_of schema new ≡ all_wanted (db_of schema set) tokens = sym last.wanted ∙ ap (all_wanted (db_of schema set)) same_tokens in
     let cells : db_of schema set ≡ fold (with_setting table (own_id (all_wanted before records) table key)) (all_wanted before records) settings =
-        done.is
-        ∙ ap (λ (i : RecordId). fold (with_setting table i) (db_of schema found) settings) own
-        ∙ ap (λ (db : Db). fold (with_setting table (own_id db table key)) db settings) (sym first.wanted) in
+    done.is
+    ∙ ap (λ (i : RecordId). fold (with_setting table i) (db_of schema found) settings) own
+    ∙ ap (λ (db : Db). fold (with_setting table (own_id db table key)) db settings) (sym first.wanted) in
     let all : all_wanted before wants ≡ all_wanted (db_of schema found) tokens = wanted-after before records tokens ∙ ap (λ (db : Db). all_wanted db tokens) first.wanted in
     let same_id : again ≡ own_id (all_wanted before wants) table key =
-        own_again
-        ∙ ap (λ (db : Db). own_id db table key) after
-        ∙ own-alike (all_wanted (db_of schema set) tokens) (all_wanted (db_of schema found) tokens) table key (all-wanted-alike (db_of schema set) (db_of schema found) tokens alike)
-        ∙ ap (λ (db : Db). own_id db table key) (sym all) in
+    own_again
+    ∙ ap (λ (db : Db). own_id db table key) after
+    ∙ own-alike (all_wanted (db_of schema set) tokens) (all_wanted (db_of schema found) tokens) table key (all-wanted-alike (db_of schema set) (db_of schema found) tokens alike)
+    ∙ ap (λ (db : Db). own_id db table key) (sym all) in
     let tokens_added : more ≡ all_added (all_wanted before records) tokens =
-        last.added
-        ∙ ap (all_added (db_of schema set)) same_tokens
-        ∙ all-added-alike (db_of schema set) (db_of schema found) tokens alike
-        ∙ ap (λ (db : Db). all_added db tokens) (sym first.wanted) in
+    last.added
+    ∙ ap (all_added (db_of schema set)) same_tokens
+    ∙ all-added-alike (db_of schema set) (db_of schema found) tokens alike
+    ∙ ap (λ (db : Db). all_added db tokens) (sym first.wanted) in
     let all_news : news ++ more ≡ all_added before wants =
-        ap (λ (ns : List Added). ns ++ more) first.added
-        ∙ ap (λ (ns : List Added). all_added before records ++ ns) tokens_added
-        ∙ sym (added-after before records tokens) in
+    ap (λ (ns : List Added). ns ++ more) first.added
+    ∙ ap (λ (ns : List Added). all_added before records ++ ns) tokens_added
+    ∙ sym (added-after before records tokens) in
     record {
       room = full-tokens limit schema old found set table key settings id news first done ∙ last.room;
       is = after ∙ ap (λ (db : Db). all_wanted db tokens) cells;
       touched = told
-        ∙ ap (λ (ps : List Place). ps ++ own_at table again settings) (sym (map-append place_of news more) ∙ ap (map place_of) all_news)
-        ∙ ap (λ (i : RecordId). map place_of (all_added before wants) ++ own_at table i settings) same_id
-        ∙ ap (λ (ps : List Place). map place_of (all_added before wants) ++ ps) (own-place (all_wanted before wants) table key settings);
+          ∙ ap (λ (ps : List Place). ps ++ own_at table again settings) (sym (map-append place_of news more) ∙ ap (map place_of) all_news)
+          ∙ ap (λ (i : RecordId). map place_of (all_added before wants) ++ own_at table i settings) same_id
+          ∙ ap (λ (ps : List Place). map place_of (all_added before wants) ++ ps) (own-place (all_wanted before wants) table key settings);
       formed = last.formed;
       within = last.within;
     }

@@ -1,26 +1,25 @@
 -- What texts want in lexicons: each token is a key of the lexicon.
-use Rattle.std.proofs.Common.{◌≡◌, ℕ, ◌+◌, ◌<◌, ◌≤◌, ◌&&◌, zero, suc, Bool, true, false, cond, nat_lt, nat_le, Option, Some, None, is_some, List, [], ◌∷◌, ◌++◌, drop, filter, get_or, length, length-append, map, slice_get, take, refl, ap, sym, ◌∙◌, arith, subst}
-use Rattle.std.proofs.lemmas.Bool.{eqb-true, false_from_ne_true}
+use Rattle.std.proofs.Common.{◌≡◌, ℕ, ◌+◌, ◌<◌, ◌≤◌, ◌&&◌, zero, suc, Bool, true, false, cond, nat_lt, nat_le, Option, Some, None, is_some, List, [], ◌∷◌, ◌++◌, drop, filter, get_or, length, length-append, map, take, refl, ap, sym, ◌∙◌, arith, subst}
+use Rattle.std.proofs.lemmas.Bool.{eqb-true}
 use Rattle.std.proofs.lemmas.Bool.Decides.{nat_tests}
 use Rattle.std.proofs.lemmas.List.{length-drop}
 use Rattle.std.proofs.lemmas.List.Splits.{slice_split_first}
 use Rattle.std.proofs.lemmas.List.Sums.{fails_before_first, passes_at_first}
 use Rattle.std.proofs.lemmas.Str.{IsCharBoundary-after_ascii, IsCharBoundary-before_ascii, IsUtf8-append, IsUtf8-drop, IsUtf8-encode, IsUtf8-take, len_utf8_bounds, length-encode, scalars-chars}
-use Rattle.std.specs.List.{AllByRecursion, after_first, before_first, filter_map, flat_map, position_or_len, slice_split}
+use Rattle.std.specs.List.{AllByRecursion, filter_map, flat_map, position_or_len, slice_split}
 use Rattle.std.specs.Option.{option_and_then, option_map_or}
 use Rattle.std.specs.Prelude.{IfSome, IsUtf8, MatchOption, encode_utf8}
 use Rattle.std.specs.Char.{IsScalar}
 use Rattle.std.specs.Str.{chars}
 use Rattle.std.proofs.Math.Utf8.{scalar, scalars}
 use Rattle.gr_base.specs.declared.numbers.ColumnNo.{ColumnNo}
-use Rattle.gr_base.specs.declared.numbers.RecordId.{RecordId}
 use Rattle.gr_base.specs.declared.numbers.TableNo.{TableNo}
 use Rattle.gr_db.specs.Db.{Db}
-use Rattle.gr_db.specs.Entry.{AreReadable, IsKeyFor, IsReadable, IsReadableGiven, IsReadableNew, IsReadableSetting, IsReadableTarget, IsReadableWant}
+use Rattle.gr_db.specs.Entry.{AreReadable, IsKeyFor, IsReadable, IsReadableGiven, IsReadableNew, IsReadableSetting, IsReadableTarget}
 use Rattle.gr_db.specs.Wants.{Setting, by_column, index_wants, indexes_on, key_wants, new_index_wants, setting_wants, source_wants, text_in, text_of_key, text_wants, token_wants}
 use Rattle.gr_db.specs.declared.want.Added.{Added}
 use Rattle.gr_db.specs.declared.want.Want.{Want}
-use Rattle.gr_expr.specs.Tables.{Record, Records, record_at, record_id, record_in, records_of}
+use Rattle.gr_expr.specs.Tables.{Record, Records, record_id, record_in, records_of}
 use Rattle.gr_root.specs.Inside.Walk.{IsWantFor}
 use Rattle.gr_root.proofs.FitLemmas.{all-append, all-by_column, all-flat_map}
 use Rattle.gr_schema.specs.Fields.{is_short_text}

@@ -42,7 +42,15 @@ pub(crate) fn put(
 {
     let mut working = WorkingTables::new(tables.try_clone()?);
     let home = schema.get();
-    match put_in(alloc, limits.records, home, &mut working, table, key, settings) {
+    match put_in(
+        alloc,
+        limits.records,
+        home,
+        &mut working,
+        table,
+        key,
+        settings,
+    ) {
         Ok(touched) => Ok(Made {
             schema: schema.try_clone()?,
             tables: working.into_kept(alloc)?,
@@ -72,12 +80,27 @@ fn put_in(
     };
     let own = own_id(tables, table, key);
     set_all(alloc, schema, tables, table, own, settings)?;
-    let more = match add_tokens(alloc, limit, schema, tables, table, settings, news.as_slice()) {
+    let more = match add_tokens(
+        alloc,
+        limit,
+        schema,
+        tables,
+        table,
+        settings,
+        news.as_slice(),
+    ) {
         Ok(more) => more,
         Err(failure) => return Err(failure),
     };
     let own = own_id(tables, table, key);
-    Ok(places(alloc, news.as_slice(), more.as_slice(), table, own, settings)?)
+    Ok(places(
+        alloc,
+        news.as_slice(),
+        more.as_slice(),
+        table,
+        own,
+        settings,
+    )?)
 }
 
 // Finds or adds a put's record and those that it refers to, and tells those that it added.
@@ -200,7 +223,12 @@ fn set_cell(
     if !tables.is_alive(table, id) {
         return Ok(());
     }
-    let cell = kept(alloc, tables, column_target(schema, table, setting.0), &setting.1)?;
+    let cell = kept(
+        alloc,
+        tables,
+        column_target(schema, table, setting.0),
+        &setting.1,
+    )?;
     let mut found = tables.take(alloc, table)?;
     found.set(alloc, id, setting.0, cell)?;
     tables.put(alloc, table, found)

@@ -1,5 +1,5 @@
 -- Tables in which cells of a record were set, and in which a put was done.
-use Rattle.std.specs.Prelude.{ℕ, ◌≡◌, Option, None, Result, Ok, Err, List, [], ◌∷◌, ◌++◌, fold, map, take}
+use Rattle.std.specs.Prelude.{ℕ, ◌≡◌, Option, None, Result, Ok, Err, List, [], ◌∷◌, fold}
 use Rattle.gr_base.specs.declared.failure.Failure.{Failure}
 use Rattle.gr_base.specs.declared.fault.Fault.{Fault}
 use Rattle.gr_base.specs.declared.numbers.RecordId.{RecordId}

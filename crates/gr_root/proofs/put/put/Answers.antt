@@ -17,7 +17,7 @@ returns-in-Err c kept same =
     let home : c.get-home.result.now ≡ c.args.schema.now = c.get-home.ensures in
     let there : IsEnded c.args.limits.records c.get-home.result.now c.new-working.result (put_wants (db_of c.get-home.result.now c.new-working.result) c.args.table key c.args.settings.now) c.in-Err.failure = c.in-Err.ensures in
     let ended : IsEnded c.args.limits.records c.args.schema.now c.args.tables.now (put_wants (db_of c.args.schema.now c.args.tables.now) c.args.table key c.args.settings.now) c.in-Err.failure =
-        subst (λ (s : SchemaDef). IsEnded c.args.limits.records s c.args.tables.now (put_wants (db_of s c.args.tables.now) c.args.table key c.args.settings.now) c.in-Err.failure) home
-        (subst (λ (ts : List TableOf). IsEnded c.args.limits.records c.get-home.result.now ts (put_wants (db_of c.get-home.result.now ts) c.args.table key c.args.settings.now) c.in-Err.failure) old there) in
+    subst (λ (s : SchemaDef). IsEnded c.args.limits.records s c.args.tables.now (put_wants (db_of s c.args.tables.now) c.args.table key c.args.settings.now) c.in-Err.failure) home
+    (subst (λ (ts : List TableOf). IsEnded c.args.limits.records c.get-home.result.now ts (put_wants (db_of c.get-home.result.now ts) c.args.table key c.args.settings.now) c.in-Err.failure) old there) in
     subst (λ (settings : List Setting). Makes c.args.limits c.args.schema.now c.args.tables.now (Put c.args.table key settings) (Err c.in-Err.failure)) (sym same)
     (unmade-put c.args.limits c.args.schema.now c.args.tables.now c.args.table key c.args.settings.now c.in-Err.failure ended)

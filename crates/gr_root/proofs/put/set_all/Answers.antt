@@ -1,5 +1,3 @@
-use Rattle.std.proofs.Common.{◌≡◌, sym}
-use Rattle.gr_root.specs.Inside.Put.{IsSet}
 use Rattle.gr_root.proofs.SetLemmas.{set-more}
 use Rattle.gr_root.proofs.put.set_all.Goals as goal
 

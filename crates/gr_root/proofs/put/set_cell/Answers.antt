@@ -1,10 +1,8 @@
-use Rattle.std.proofs.Common.{◌≡◌, ◌∙◌, true, false, is_some, ap, refl, sym}
-use Rattle.gr_db.specs.Apply.{kept}
-use Rattle.gr_db.specs.Wants.{column_target}
+use Rattle.std.proofs.Common.{◌≡◌, ◌∙◌, true, false, is_some, refl, sym}
 use Rattle.gr_expr.specs.Tables.{record_at}
 use Rattle.gr_root.specs.Inside.Sound.{records_in}
 use Rattle.gr_root.specs.Inside.Walk.{db_of}
-use Rattle.gr_root.proofs.SetLemmas.{alive-in, place-there, set-fits, set-nothing, set-one, shapes-taken}
+use Rattle.gr_root.proofs.SetLemmas.{alive-in, place-there, set-fits, set-nothing, shapes-taken}
 use Rattle.gr_root.proofs.put.set_cell.Goals as goal
 
 pub returns-then-not-is_alive : goal.returns-then-not-is_alive
