@@ -4,3 +4,6 @@ pub mod TablesLemmas
 pub mod WalkLemmas
 pub mod SetLemmas
 pub mod FitLemmas
+pub mod ShapesLemmas
+pub mod CreateLemmas
+pub mod ReadableLemmas

@@ -24,7 +24,7 @@ use Rattle.gr_root.proofs.TablesLemmas.{IsFormed, formed-at, records-at}
 use Rattle.gr_schema.specs.Schema.{SchemaDef, changed_at, column_at, column_in, table_at}
 use Rattle.gr_schema.specs.declared.definition.ColumnDef.{ColumnDef}
 use Rattle.gr_schema.specs.declared.definition.TableDef.{TableDef}
-use Rattle.gr_table.specs.Cells.{IsCellOf}
+use Rattle.gr_values.specs.Fits.{IsCellOf}
 use Rattle.gr_table.specs.Table.{TableOf}
 use Rattle.gr_values.specs.Fits.{Fits}
 use Rattle.gr_values.specs.declared.data_type.Shape.{Shape}

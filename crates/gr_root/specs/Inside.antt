@@ -5,3 +5,4 @@ pub mod Walk
 pub mod Make
 pub mod Change
 pub mod Put
+pub mod Create

@@ -1,7 +1,7 @@
 // The records of one table.
 ghost use Rattle.std.specs.Prelude.{◌≡◌, ◌≢◌, ◌≤◌, ◌<◌, ◌++◌, ℕ, OnErr, ◌∷◌, [], true, IfOk, IfSome, MatchOption, OnOk, Some, None, is_some, length, map, slice_get};
 ghost use Rattle.std.specs.Option.{option_and_then, option_copied, option_flatten, option_map};
-ghost use Rattle.gr_columns.specs.Cells.{IsCellOf};
+ghost use Rattle.gr_values.specs.Fits.{IsCellOf};
 ghost use Rattle.gr_db.specs.Db.{changed_in, with_cell, with_column_of, without};
 ghost use Rattle.gr_expr.specs.Tables.{id_in, record_in};
 ghost use Rattle.gr_schema.specs.Sound.{has_keys};
