@@ -28,7 +28,6 @@ pub struct TableRecords {
 }
 
 impl Model for TableRecords {
-    ghost use Rattle.std.specs.Prelude.{⊥};
     ghost use Rattle.gr_table.specs.Table.{TableOf, no_records};
 
     ghost Value = { TableOf };
@@ -56,6 +55,7 @@ impl TableRecords {
     pub fn try_clone(&self) -> Result<TableRecords, NoMemory>
         ensures { IfOk result (λ copy. copy ≡ self.now) }
     {
+        let _key = self.key;
         unreachable!()
     }
 
@@ -64,6 +64,7 @@ impl TableRecords {
         ensures exact { result ≡ length self.now.records }
         ensures sound { IsTable self.now }
     {
+        let _key = self.key;
         unreachable!()
     }
 
@@ -71,6 +72,7 @@ impl TableRecords {
     pub fn is_alive(&self, id: RecordId) -> bool
         ensures { result ≡ is_some (record_in self.now.records id.0) }
     {
+        let _key = self.key;
         unreachable!()
     }
 
@@ -78,6 +80,7 @@ impl TableRecords {
     pub fn key(&self, id: RecordId) -> Option<&Key>
         ensures { option_copied result ≡ option_and_then (λ found. found.key) (record_in self.now.records id.0) }
     {
+        let _key = self.key;
         unreachable!()
     }
 
@@ -85,6 +88,7 @@ impl TableRecords {
     pub fn cell(&self, id: RecordId, column: ColumnNo) -> Option<CellView<'_>>
         ensures { option_map shown result ≡ option_and_then (λ found. option_flatten (slice_get found.cells column.0)) (record_in self.now.records id.0) }
     {
+        let _key = self.key;
         unreachable!()
     }
 
@@ -92,6 +96,7 @@ impl TableRecords {
     pub fn find(&self, key: &Key) -> Option<RecordId>
         ensures { result ≡ id_in self.now.records key.now }
     {
+        let _key = self.key;
         unreachable!()
     }
 
@@ -102,6 +107,7 @@ impl TableRecords {
         requires keyed { IsKeyIn self.old.key (option_copied key) }
         ensures { AnswersWant limit self.old self.new (option_copied key.entry) result }
     {
+        let _key = self.key;
         unreachable!()
     }
 
@@ -119,6 +125,7 @@ impl TableRecords {
         requires fits { MatchOption (option_flatten (slice_get self.old.shapes column.0)) ⊥ (λ shape. IsCellOf shape cell) }
         ensures { OnOk result (self.new ≡ record self.old { records = changed_in id.0 (with_cell column cell) self.old.records }) }
     {
+        let _key = self.key;
         unreachable!()
     }
 
@@ -127,6 +134,7 @@ impl TableRecords {
         requires { is_some (record_in self.old.records id.0) ≡ true }
         ensures { OnOk result (self.new ≡ record self.old { records = without id.0 self.old.records }) }
     {
+        let _key = self.key;
         unreachable!()
     }
 
@@ -139,6 +147,7 @@ impl TableRecords {
           records = with_column_of (option_map default_of shape) self.old.records;
         }) }
     {
+        let _key = self.key;
         unreachable!()
     }
 
@@ -147,6 +156,7 @@ impl TableRecords {
         requires { self.now.key ≡ Some DataType.ShortText }
         ensures { IfOk result (λ ids. AreWithPrefix self.now.records prefix.now ids) }
     {
+        let _key = self.key;
         unreachable!()
     }
 
@@ -156,6 +166,7 @@ impl TableRecords {
         ensures whole { is_some result ≡ is_whole_column self.now.shapes column }
         ensures exact { IfSome result (IsRecordMask self.now column block cmp against) }
     {
+        let _key = self.key;
         unreachable!()
     }
 }
