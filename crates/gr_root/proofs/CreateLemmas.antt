@@ -145,12 +145,12 @@ named-home schema wish table def (Some home) is meant = at (role_of schema home 
 
 -- the table of a column that may be made is there
 pub column-home : (schema : SchemaDef) (table : TableNo) (def : ColumnDef) → IsColumnFor schema table def → (home : TableDef) × (table_at schema table ≡ Some home)
-column-home schema table def for = named-home schema for.wish table def (home_named schema for.wish.table) refl for.meant
+column-home schema table def wished = named-home schema wished.wish table def (home_named schema wished.wish.table) refl wished.meant
 
 -- its place
 pub column-place : (schema : SchemaDef) (tables : List TableOf) (table : TableNo) (def : ColumnDef) → IsColumnFor schema table def → AreFormed schema tables → table.0 < length tables
-column-place schema tables table def for formed =
-    let home = column-home schema table def for in
+column-place schema tables table def wished formed =
+    let home = column-home schema table def wished in
     let within : table.0 < length schema.tables = slice_get_within schema.tables table.0 home.0 home.1 in
     let many : length tables ≡ length schema.tables = as-many schema tables formed in
     omega arith
@@ -166,15 +166,15 @@ count-is schema table home there = ap (λ (o : Option TableDef). option_map_or (
 
 -- the new column goes last in its table
 pub column-last : (schema : SchemaDef) (table : TableNo) (def : ColumnDef) → IsColumnFor schema table def → column_at (with_column schema table def) table (column_no (column_count schema table)) ≡ Some def
-column-last schema table def for =
-    let home = column-home schema table def for in
+column-last schema table def wished =
+    let home = column-home schema table def wished in
     ap (option_and_then (λ (one : TableDef). slice_get one.columns (column_count schema table))) (home-grown schema table def home.0 home.1)
     ∙ column-in home.0 def (column_count schema table) (count-is schema table home.0 home.1)
 
 -- it has a shape that cells can have, where it holds data
 pub column-shape : (schema : SchemaDef) (table : TableNo) (def : ColumnDef) → IsColumnFor schema table def → IsSound (with_column schema table def) → IfSome (role_shape schema def.role) IsShape
-column-shape schema table def for sound =
-    let home = column-home schema table def for in
+column-shape schema table def wished sound =
+    let home = column-home schema table def wished in
     let new : SchemaDef = with_column schema table def in
     let is : IsColumn new table (table_with def home.0) (length home.0.columns) def =
         (sound.tables table.0 (table_with def home.0) (home-grown schema table def home.0 home.1)).columns (length home.0.columns) def (get-end home.0.columns def) in
@@ -192,7 +192,7 @@ blank-put old middle new table shape found after taken put is = record {
 
 -- tables with the new column, and their schema
 pub record IsBlank (schema new : SchemaDef) (tables working : List TableOf) (table : TableNo) (def : ColumnDef) : Type 0 where
-  pub for : IsColumnFor schema table def
+  pub wished : IsColumnFor schema table def
   pub grown : new ≡ with_column schema table def
   pub blank : HasBlank tables working table (role_shape schema def.role)
 
@@ -233,7 +233,7 @@ pub wants-are : (schema new : SchemaDef) (tables working : List TableOf) (table 
 wants-are schema new tables working table def column wants is numbered wanted =
     let number : column ≡ column_no (column_count schema table) = ap column_no numbered in
     let there : column_at new table column ≡ Some def =
-        ap (λ (s : SchemaDef). column_at s table column) is.grown ∙ ap (column_at (with_column schema table def) table) number ∙ column-last schema table def is.for in
+        ap (λ (s : SchemaDef). column_at s table column) is.grown ∙ ap (column_at (with_column schema table def) table) number ∙ column-last schema table def is.wished in
     wanted
     ∙ ap (λ (o : Option ColumnDef). option_map_or (λ one. let index : TableNo × ColumnNo = (table, column) in new_index_wants (db_of new working) index one.role) o []) there
     ∙ ap (λ (c : ColumnNo). let index : TableNo × ColumnNo = (table, c) in new_index_wants (db_of new working) index def.role) number

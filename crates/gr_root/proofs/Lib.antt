@@ -7,3 +7,4 @@ pub mod FitLemmas
 pub mod ShapesLemmas
 pub mod CreateLemmas
 pub mod ReadableLemmas
+pub mod ReadersLemmas
