@@ -146,7 +146,7 @@ role-is-shape schema number home (Index target sources position section) sound i
 
 -- Tables of these forms
 
-append-map : {X Y : Type 0} (f : X → Y) (xs ys : List X) → map f (xs ++ ys) ≡ map f xs ++ map f ys
+pub append-map : {X Y : Type 0} (f : X → Y) (xs ys : List X) → map f (xs ++ ys) ≡ map f xs ++ map f ys
 append-map f [] ys = refl
 append-map f (x ∷ xs) ys = ap (λ zs. f x ∷ zs) (append-map f xs ys)
 
