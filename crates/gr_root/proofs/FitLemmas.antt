@@ -29,11 +29,11 @@ use Rattle.gr_values.specs.declared.value.Key.{Key}
 
 -- Lists of wants
 
-all-append : {X : Type 0} (P : X → Type 0) (xs ys : List X) → AllByRecursion P xs → AllByRecursion P ys → AllByRecursion P (xs ++ ys)
+pub all-append : {X : Type 0} (P : X → Type 0) (xs ys : List X) → AllByRecursion P xs → AllByRecursion P ys → AllByRecursion P (xs ++ ys)
 all-append P [] ys one other = other
 all-append P (x ∷ xs) ys one other = (one.0, all-append P xs ys one.1 other)
 
-all-flat_map : {X Y : Type 0} (P : Y → Type 0) (Q : X → Type 0) (f : X → List Y) (step : (x : X) → Q x → AllByRecursion P (f x)) (xs : List X) → AllByRecursion Q xs → AllByRecursion P (flat_map f xs)
+pub all-flat_map : {X Y : Type 0} (P : Y → Type 0) (Q : X → Type 0) (f : X → List Y) (step : (x : X) → Q x → AllByRecursion P (f x)) (xs : List X) → AllByRecursion Q xs → AllByRecursion P (flat_map f xs)
 all-flat_map P Q f step [] all = tt
 all-flat_map P Q f step (x ∷ xs) all = all-append P (f x) (flat_map f xs) (step x all.0) (all-flat_map P Q f step xs all.1)
 

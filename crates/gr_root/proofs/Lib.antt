@@ -4,6 +4,7 @@ pub mod TablesLemmas
 pub mod WalkLemmas
 pub mod SetLemmas
 pub mod FitLemmas
+pub mod TokenLemmas
 pub mod ShapesLemmas
 pub mod CreateLemmas
 pub mod ReadableLemmas

@@ -1,4 +1,4 @@
-use Rattle.std.proofs.Common.{◌≡◌, ◌∙◌, Err, None, Some, ap, subst, sym}
+use Rattle.std.proofs.Common.{◌≡◌, ◌∙◌, Err, Ok, None, Some, ap, subst, sym}
 use Rattle.gr_base.specs.declared.numbers.TableNo.{TableNo}
 use Rattle.gr_root.specs.Inside.Create.{MakesColumn}
 use Rattle.gr_root.specs.Inside.Make.{IsBase}
@@ -9,7 +9,11 @@ use Rattle.gr_schema.specs.Wishes.{IsAnswer, column_fault, column_of}
 use Rattle.gr_schema.specs.declared.definition.ColumnDef.{ColumnDef}
 
 pub returns-in-Ok : goal.returns-in-Ok
-returns-in-Ok c = ?
+returns-in-Ok c =
+    let same : c.get-schema.result.now ≡ c.args.schema.now = c.get-schema.ensures in
+    let exact = subst (λ (s : SchemaDef). IsAnswer (column_fault s c.args.wish.now) (column_of s c.args.wish.now) (Ok (c.in-Ok.table, c.in-Ok.def))) same c.in-Ok.ensures.exact in
+    let done = subst (λ (s : SchemaDef). MakesColumn c.args.limits s c.args.tables.now c.in-Ok.table c.in-Ok.def c.column_made.result) same c.column_made.ensures in
+    made-column c.args.limits c.args.schema.now c.args.tables.now c.args.wish.now c.in-Ok.table c.in-Ok.def c.column_made.result exact.0 exact.1 done
 
 pub returns-in-Err : goal.returns-in-Err
 returns-in-Err c =
