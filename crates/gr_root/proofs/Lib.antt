@@ -6,3 +6,7 @@ pub mod SetLemmas
 pub mod FitLemmas
 pub mod TokenLemmas
 pub mod PutLemmas
+pub mod ShapesLemmas
+pub mod CreateLemmas
+pub mod ReadableLemmas
+pub mod ReadersLemmas

@@ -5,3 +5,5 @@ pub mod Walk
 pub mod Make
 pub mod Change
 pub mod Put
+pub mod Create
+pub mod Touched
