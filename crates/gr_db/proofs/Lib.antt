@@ -1,3 +1,4 @@
 pub mod ByColumnLemmas
 pub mod WantsLemmas
 pub mod NewIndexLemmas
+pub mod Grows

@@ -10,3 +10,5 @@ pub mod ShapesLemmas
 pub mod CreateLemmas
 pub mod ReadableLemmas
 pub mod ReadersLemmas
+pub mod AppliedFew
+pub mod AppliedLemmas

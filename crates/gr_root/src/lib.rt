@@ -1,6 +1,7 @@
 // The state: what the journal's entries made, ready to be read and to take one entry more.
 #![tactic(auto)]
 
+mod changing;
 mod create;
 mod delete;
 mod make;

@@ -1,20 +1,23 @@
 // A state: a journal, and the schema and the tables that it made.
 ghost use Rattle.std.specs.Prelude.{◌≡◌, ◌+◌, [], Some, IfOk, min};
+ghost use Rattle.std.specs.Arc.{arc_value};
 ghost use Rattle.std.specs.Option.{option_map};
 ghost use Rattle.gr_base.specs.Limits.{IsInRange};
 ghost use Rattle.gr_db.specs.Accepted.{IsAccepted};
 ghost use Rattle.gr_db.specs.Apply.{replay};
 ghost use Rattle.gr_expr.specs.Tables.{cell_at, records_of};
-ghost use Rattle.gr_root.specs.Root.{merges_in};
+ghost use Rattle.gr_db.specs.Entry.{IsValid};
+ghost use Rattle.gr_root.specs.Root.{Applies, HoldsText, merges_in};
 ghost use Rattle.gr_schema.specs.Paths.{key_type};
 ghost use Rattle.gr_table.specs.Masks.{AreWithPrefix};
 ghost use Rattle.gr_values.specs.View.{shown};
 ghost use Rattle.gr_values.specs.declared.data_type.DataType.{DataType};
 
-use crate::shared_schema::SharedSchema;
+use crate::changing::{journal_full, made, tell_sound};
 use crate::make::Places;
-use gr_base::{ColumnNo, Ids, Limits, NoMemory, RecordId, Steps, TableNo};
-use gr_db::Journal;
+use crate::shared_schema::SharedSchema;
+use gr_base::{ColumnNo, Failure, Fault, Ids, Limits, NoMemory, RecordId, Steps, TableNo};
+use gr_db::{Entry, Journal};
 use gr_expr::Rows;
 use gr_pvec::PVec;
 use gr_schema::Schema;
@@ -22,7 +25,7 @@ use gr_table::TableRecords;
 use gr_values::{CellView, Key};
 use std::alloc::Global;
 use std::marker::Model;
-
+use std::sync::Arc;
 
 /// A state that never changes, which contracts see as its limits and its journal. A state with one entry more shares with this one all that the entry does not
 /// change.
@@ -101,7 +104,31 @@ impl Root {
         requires text { HoldsText (arc_value entry).change }
         ensures { Applies self.now (arc_value entry) result }
     {
-        unreachable!()
+        tell_sound(self.schema.get());
+        let made = match made(
+            alloc,
+            self.limits,
+            &self.schema,
+            &self.tables,
+            &entry.change,
+        ) {
+            Ok(made) => made,
+            Err(failure) => return Err(failure),
+        };
+        if self.journal.len() - self.merges == self.limits.journal {
+            return Err(Failure::Refused(journal_full(alloc)?));
+        }
+        let places = Arc::new(alloc, made.touched)?;
+        let touched = self.touched.pushed(alloc, places)?;
+        let journal = self.journal.pushed(alloc, entry)?;
+        Ok(Root {
+            limits: self.limits,
+            journal,
+            merges: self.merges,
+            schema: made.schema,
+            tables: made.tables,
+            touched,
+        })
     }
 
     /// The answer of `cell`, with one step.
