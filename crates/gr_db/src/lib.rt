@@ -6,6 +6,7 @@ mod index_wants;
 mod journal;
 mod keeping;
 mod references;
+mod shapes;
 mod sorted;
 #[cfg(test)]
 mod tests;
@@ -17,5 +18,6 @@ pub use index_wants::new_index_wants;
 pub use journal::Journal;
 pub use keeping::{counts, id_which, kept, own_id};
 pub use references::{column_target, record_wants};
+pub use shapes::shape_of;
 pub use tokens::token_wants;
 pub use want::{Added, Want};

@@ -1,0 +1,15 @@
+pub mod Places
+pub mod Lists
+pub mod KeyBytes
+pub mod Defaults
+pub mod Maps
+pub mod Keys
+pub mod Seen
+pub mod Finds
+pub mod Prefixes
+pub mod Held
+pub mod Changes
+pub mod Outcomes
+pub mod Tables
+pub mod Cells
+pub mod Wants
