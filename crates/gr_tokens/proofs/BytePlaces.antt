@@ -1,15 +1,17 @@
 -- The places of a phrase in bytes, by searches for it.
-use Rattle.std.proofs.Common.{ℕ, ◌≡◌, ◌<◌, ◌≤◌, ◌+◌, ◌-◌, true, false, cond, List, [], ◌∷◌, length, take, drop, sym, ap, ◌∙◌, arith, nat_eq, ⊎_elim}
-use Rattle.std.proofs.lemmas.Bool.{cases_Bool}
+use Rattle.std.proofs.Common.{ℕ, Bor, MatchOption, ◌≡◌, ◌<◌, ◌≤◌, ◌+◌, ◌-◌, true, false, cond, List, [], ◌∷◌, length, take, drop, sym, ap, ◌∙◌, arith, nat_eq, ⊎_elim}
+use Rattle.std.proofs.lemmas.Bool.{cases_Bool, cases_lt}
 use Rattle.std.proofs.lemmas.Bool.Decides.{Decides-eqb}
 use Rattle.std.proofs.lemmas.List.{length-drop, length-take, length-take-le, take-take, take_all, drop-drop, drop_all}
 use Rattle.std.specs.List.{starts_with}
+use Rattle.std.specs.Prelude.{Option, None, Some}
 use Rattle.memchr.specs.Find.{OccursAt}
 use Rattle.memchr.proofs.lemmas.MatchLemmas.{OccursAt-part, OccursAt-from_part}
+use Rattle.gr_tokens.specs.Inside.Alone.{IsNext, NoneStands}
 use Rattle.gr_tokens.specs.Inside.Periods.{IsPeriod}
 use Rattle.gr_tokens.specs.Places.{places}
 use Rattle.gr_tokens.proofs.PlaceSteps.{places-empty, places-cons_yes}
-use Rattle.gr_tokens.proofs.Shifts.{starts-take, take-starts, places-skip, places-shift}
+use Rattle.gr_tokens.proofs.Shifts.{starts-take, take-starts, place-period, places-skip, places-shift}
 
 -- a place that a search finds
 pub OccursAt-starts : (bytes phrase : List ℕ) (k : ℕ) → OccursAt bytes phrase k → starts_with nat_eq (drop k bytes) phrase ≡ true
@@ -25,7 +27,8 @@ starts-fits bytes phrase begins =
     omega (arith, length-take (length phrase) bytes, same)
 
 module _ (phrase : List ℕ) (some : 0 < length phrase) (bytes : List ℕ) where
-  differs : (k : ℕ) → ¬ OccursAt bytes phrase k → starts_with nat_eq (drop k bytes) phrase ≡ false
+  -- where it stands not, the bytes begin otherwise
+  pub differs : (k : ℕ) → ¬ OccursAt bytes phrase k → starts_with nat_eq (drop k bytes) phrase ≡ false
   differs k none =
       ⊎_elim
       (λ begins.
@@ -73,3 +76,40 @@ IsPeriod-occurs phrase half q some fits period =
     ∙ sym (take-take half (n - q) (drop q phrase) shorter)
     ∙ ap (take half) period.again
     ∙ take-take half (n - q) phrase shorter)
+
+-- no place is too near to the one that begins some bytes
+pub near-none : (phrase : List ℕ) (apart : ℕ) (bytes : List ℕ) → starts_with nat_eq bytes phrase ≡ true → apart ≤ length phrase → ((q : ℕ) → 0 < q → q < apart → ¬ IsPeriod phrase (length phrase) q) → NoneStands bytes phrase 1 apart
+near-none phrase apart bytes begins high none q low below =
+    let same = starts-take nat_eq Decides-eqb bytes phrase begins ∙ sym (take_all (length phrase) phrase (omega arith)) in
+    ⊎_elim
+    (λ stands. absurd (none q (omega arith) below (place-period nat_eq Decides-eqb (length phrase) q bytes phrase (omega arith) (omega arith) same stands)))
+    (λ other. other)
+    (cases_Bool (starts_with nat_eq (drop q bytes) phrase))
+
+module _ (bytes phrase : List ℕ) (apart : ℕ) (near : NoneStands bytes phrase 1 apart) where
+  -- no place is near or among some bytes after that
+  none-further : (n : ℕ) → NoneStands (drop apart bytes) phrase 0 n → NoneStands bytes phrase 1 (apart + n)
+  none-further n none q low high =
+      ⊎_elim
+      (λ early. near q low early)
+      (λ late.
+      let whole : apart + (q - apart) ≡ q = omega arith in
+      ap (λ k. starts_with nat_eq (drop k bytes) phrase) (sym whole)
+      ∙ ap (λ l. starts_with nat_eq l phrase) (sym (drop-drop (q - apart) apart bytes))
+      ∙ none (q - apart) (omega arith) (omega arith))
+      (cases_lt q apart)
+
+  -- the first of the others is the next
+  pub next-further : apart ≤ length bytes → 0 < apart → (found : Option (Bor (List ℕ))) → MatchOption found (NoneStands (drop apart bytes) phrase 0 (length (drop apart bytes))) (λ first. IsNext (drop apart bytes) phrase 0 first.now) → MatchOption found (NoneStands bytes phrase 1 (length bytes)) (λ next. IsNext bytes phrase 1 next.now)
+  next-further within some None none =
+      let left = length-drop apart bytes in
+      λ q low high. none-further (length (drop apart bytes)) none q low (omega arith)
+  next-further within some (Some next) first =
+      record {
+        at = apart + first.at;
+        low = omega arith;
+        high = omega (arith, first.high, length-drop apart bytes);
+        is = first.is ∙ drop-drop first.at apart bytes;
+        none = none-further first.at first.none;
+        stands = first.stands;
+      }

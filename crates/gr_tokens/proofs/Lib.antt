@@ -9,3 +9,6 @@ pub mod SpaceLemmas
 pub mod WordLemmas
 pub mod SameWords
 pub mod BigramLemmas
+pub mod Pieces
+pub mod AloneSteps
+pub mod PlainLemmas

@@ -4,3 +4,5 @@ pub mod Overlaps
 pub mod Kept
 pub mod Matches
 pub mod Same
+pub mod Alone
+pub mod Plain

@@ -10,7 +10,7 @@ use memchr::memchr;
 use std::marker::Model;
 
 /// The most bytes that a word may have.
-const LONGEST_WORD: usize = 4096;
+pub(crate) const LONGEST_WORD: usize = 4096;
 
 /// The bytes of a word that are looked at one by one, before a search for a space begins.
 pub(crate) const SHORT_WORD: usize = 16;

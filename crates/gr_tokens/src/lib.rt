@@ -1,6 +1,7 @@
 // How texts are cut into tokens, and how often a phrase stands in a text.
 #![tactic(auto)]
 
+mod alone_places;
 mod bigram;
 mod character_places;
 mod count;
@@ -9,6 +10,8 @@ mod overlap;
 mod periods;
 mod phrase;
 mod phrase_periods;
+mod plain;
+mod plain_places;
 mod same_word;
 #[cfg(test)]
 mod tests;

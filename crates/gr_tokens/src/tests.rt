@@ -284,12 +284,18 @@ fn small_texts(rt: &impl Abort, alloc: Global, length: u32, bits: u32) -> Result
     for text_length in 0..11u32 {
         for text_bits in 0..(1u32 << (text_length % 32)) {
             let text = letters(alloc, text_length, text_bits, 0)?;
+            let plain = letters(alloc, text_length, text_bits, 1)?;
             let spaced = letters(alloc, text_length, text_bits, 2)?;
             let wanted = plain_count(text_bits, text_length, bits, length);
             assert_eq!(rt;
                 phrase_places(How::Chars, &text, &phrase),
                 wanted,
                 "{phrase} in {text}"
+            );
+            assert_eq!(rt;
+                phrase_places(How::Words, &plain, &words),
+                wanted,
+                "{phrase} in {plain}"
             );
             assert_eq!(rt;
                 phrase_places(How::Words, &spaced, &words),
@@ -339,6 +345,8 @@ fn half_in_whole(
     let half = first_letters(alloc, word, 50_000, 0)?;
     assert_eq!(rt; phrase_places(How::Chars, &text, &half), wanted);
     let text = first_letters(alloc, word, 100_000, 1)?;
+    let plain = first_letters(alloc, word, 50_000, 1)?;
+    assert_eq!(rt; phrase_places(How::Words, &text, &plain), wanted);
     let half = first_letters(alloc, word, 50_000, 2)?;
     assert_eq!(rt; phrase_places(How::Words, &text, &half), wanted);
     Ok(())

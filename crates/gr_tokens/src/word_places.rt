@@ -1,4 +1,4 @@
-// The places of a phrase by words, in time linear in the text and the phrase. (Galil and Seiferas, Time-space-optimal
+// The places of a phrase by words in any text, in time linear in the text and the phrase. (Galil and Seiferas, Time-space-optimal
 // string matching, 1983.)
 ghost use Rattle.std.specs.Prelude.{◌≡◌, min};
 ghost use Rattle.std.specs.Str.{bytes_eq};
