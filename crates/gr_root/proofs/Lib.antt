@@ -8,4 +8,3 @@ pub mod TokenLemmas
 pub mod ShapesLemmas
 pub mod CreateLemmas
 pub mod ReadableLemmas
-pub mod ReadersLemmas
