@@ -68,8 +68,8 @@ made-table limits schema tables wish def made base faultless meant done =
     record {
       faultless = faultless;
       is = ap (λ (s : SchemaDef). db_of s made.tables) done.schema ∙ ap (db_of new) done.tables
-        ∙ ap (λ (rs : List Records). let db : Db = record { schema = new; tables = rs } in db) (append-map (λ (t : TableOf). t.records) tables (added ∷ []))
-        ∙ ap (λ (d : TableDef). let db : Db = record { schema = with_table schema d; tables = records_in tables ++ [] ∷ [] } in db) (sym same);
+          ∙ ap (λ (rs : List Records). let db : Db = record { schema = new; tables = rs } in db) (append-map (λ (t : TableOf). t.records) tables (added ∷ []))
+          ∙ ap (λ (d : TableDef). let db : Db = record { schema = with_table schema d; tables = records_in tables ++ [] ∷ [] } in db) (sym same);
       touched = done.touched;
       formed = subst (λ (s : SchemaDef). AreFormed s made.tables) (sym done.schema) (subst (AreFormed new) (sym done.tables) (formed-table schema tables def added base.sound base.formed form));
       within = subst (AreWithin limits.records) (sym done.tables) (within-end limits.records tables added (omega arith) base.within);
@@ -177,7 +177,7 @@ column-shape schema table def wished sound =
     let home = column-home schema table def wished in
     let new : SchemaDef = with_column schema table def in
     let is : IsColumn new table (table_with def home.0) (length home.0.columns) def =
-        (sound.tables table.0 (table_with def home.0) (home-grown schema table def home.0 home.1)).columns (length home.0.columns) def (get-end home.0.columns def) in
+    (sound.tables table.0 (table_with def home.0) (home-grown schema table def home.0 home.1)).columns (length home.0.columns) def (get-end home.0.columns def) in
     subst (λ (o : Option Shape). IfSome o IsShape) (role-shape-column schema table def def.role) (role-is-shape new table (table_with def home.0) def.role sound is.role)
 
 -- The tables with the new column
@@ -202,10 +202,10 @@ blank-db schema new tables working table def is =
     let shape : Option Shape = role_shape schema def.role in
     let after : TableOf = table_with_blank shape is.blank.before in
     let put : records_in (slice_set tables table.0 after) ≡ changed_at table.0 (with_column_of (option_map default_of shape)) (records_in tables) =
-        records-set tables table.0 is.blank.before after (with_column_of (option_map default_of shape)) is.blank.there refl in
+    records-set tables table.0 is.blank.before after (with_column_of (option_map default_of shape)) is.blank.there refl in
     ap (λ (s : SchemaDef). db_of s working) is.grown
     ∙ ap (λ (rs : List Records). let db : Db = record { schema = with_column schema table def; tables = rs } in db)
-        (ap records_in is.blank.is ∙ put ∙ ap (λ (o : Option Shape). changed_at table.0 (with_column_of (option_map default_of o)) (records_in tables)) (sym (role-shape-column schema table def def.role)))
+    (ap records_in is.blank.is ∙ put ∙ ap (λ (o : Option Shape). changed_at table.0 (with_column_of (option_map default_of o)) (records_in tables)) (sym (role-shape-column schema table def def.role)))
 
 -- they have the forms of their schema
 pub blank-formed : (schema new : SchemaDef) (tables working : List TableOf) (table : TableNo) (def : ColumnDef) → IsBlank schema new tables working table def → AreFormed schema tables → AreFormed new working
@@ -213,8 +213,8 @@ blank-formed schema new tables working table def is formed =
     let shape : Option Shape = role_shape schema def.role in
     let before : TableOf = is.blank.before in
     subst (λ (s : SchemaDef). AreFormed s working) (sym is.grown) (subst (AreFormed (with_column schema table def)) (sym is.blank.is)
-        (formed-column schema tables table def before (table_with_blank shape before) formed is.blank.there
-            (ap (λ (o : Option Shape). let form : Form = (before.key, before.shapes ++ o ∷ []) in form) (sym (role-shape-column schema table def def.role)))))
+    (formed-column schema tables table def before (table_with_blank shape before) formed is.blank.there
+    (ap (λ (o : Option Shape). let form : Form = (before.key, before.shapes ++ o ∷ []) in form) (sym (role-shape-column schema table def def.role)))))
 
 -- they have as many ids given
 pub blank-within : (limit : ℕ) (schema new : SchemaDef) (tables working : List TableOf) (table : TableNo) (def : ColumnDef) → IsBlank schema new tables working table def → AreWithin limit tables → AreWithin limit working
@@ -233,7 +233,7 @@ pub wants-are : (schema new : SchemaDef) (tables working : List TableOf) (table 
 wants-are schema new tables working table def column wants is numbered wanted =
     let number : column ≡ column_no (column_count schema table) = ap column_no numbered in
     let there : column_at new table column ≡ Some def =
-        ap (λ (s : SchemaDef). column_at s table column) is.grown ∙ ap (column_at (with_column schema table def) table) number ∙ column-last schema table def is.wished in
+    ap (λ (s : SchemaDef). column_at s table column) is.grown ∙ ap (column_at (with_column schema table def) table) number ∙ column-last schema table def is.wished in
     wanted
     ∙ ap (λ (o : Option ColumnDef). option_map_or (λ one. let index : TableNo × ColumnNo = (table, column) in new_index_wants (db_of new working) index one.role) o []) there
     ∙ ap (λ (c : ColumnNo). let index : TableNo × ColumnNo = (table, c) in new_index_wants (db_of new working) index def.role) number
@@ -252,7 +252,7 @@ pub made-walked : (limits : Limits) (schema new : SchemaDef) (tables working aft
 made-walked limits schema new tables working after table def wants news made is are walked schema_is tables_are places =
     record {
       faultless = sym (by-blank (full_fault limits) schema new tables working table def wants is are)
-        ∙ ap (option_map (λ (t : TableNo). fault_named TableFull (option_map_or (λ one. one.name) (table_at new t) []))) walked.room;
+          ∙ ap (option_map (λ (t : TableNo). fault_named TableFull (option_map_or (λ one. one.name) (table_at new t) []))) walked.room;
       is = ap (λ (s : SchemaDef). db_of s made.tables) schema_is ∙ ap (db_of new) tables_are ∙ sym walked.wanted ∙ by-blank all_wanted schema new tables working table def wants is are;
       touched = places ∙ ap (map place_of) walked.added ∙ by-blank (λ db ws. map place_of (all_added db ws)) schema new tables working table def wants is are;
       formed = subst (λ (s : SchemaDef). AreFormed s made.tables) (sym schema_is) (subst (AreFormed new) (sym tables_are) walked.formed);
@@ -265,8 +265,8 @@ pub made-ended : (limits : Limits) (schema new : SchemaDef) (tables working : Li
     → MakesColumn limits schema tables table def (Err failure)
 made-ended limits schema new tables working table def wants (Refused fault) is are ended = record {
   first = sym (by-blank (full_fault limits) schema new tables working table def wants is are)
-    ∙ ap (option_map (λ (t : TableNo). fault_named TableFull (option_map_or (λ one. one.name) (table_at new t) []))) ended.full
-    ∙ ap Some (sym ended.told.is);
+      ∙ ap (option_map (λ (t : TableNo). fault_named TableFull (option_map_or (λ one. one.name) (table_at new t) []))) ended.full
+      ∙ ap Some (sym ended.told.is);
   text = ended.told.text;
 }
 made-ended limits schema new tables working table def wants NoMemory is are ended = tt

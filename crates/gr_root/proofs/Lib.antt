@@ -9,6 +9,5 @@ pub mod PutLemmas
 pub mod ShapesLemmas
 pub mod CreateLemmas
 pub mod ReadableLemmas
-pub mod ReadersLemmas
 pub mod AppliedFew
 pub mod AppliedLemmas

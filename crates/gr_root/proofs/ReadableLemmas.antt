@@ -71,7 +71,7 @@ record-text table id field text (Some found) sound there is = field-text table f
 pub table-readable : (tables : List TableOf) (target : TableNo) (table : TableOf) → slice_get tables target.0 ≡ Some table → IsTable table → AreReadable (records_in tables) target
 table-readable tables target table there sound = λ id field text is.
     record-text table id field text (record_in table.records id.0) sound refl
-        (ap (λ (records : Records). option_and_then (λ found. text_in found field) (record_in records id.0)) (sym (records-at tables target table there)) ∙ is)
+    (ap (λ (records : Records). option_and_then (λ found. text_in found field) (record_in records id.0)) (sym (records-at tables target table there)) ∙ is)
 
 none-text : (id : ℕ) (field : Field) (text : List ℕ) → option_and_then (λ found. text_in found field) (record_in [] id) ≡ Some text → IsUtf8 text
 none-text zero field text is = absurd cc

@@ -74,7 +74,7 @@ role-shape-column schema table column (Index target sources position section) = 
 form-column : (schema : SchemaDef) (table : TableNo) (column : ColumnDef) (def : TableDef) → form_in (with_column schema table column) def ≡ form_in schema def
 form-column schema table column def =
     ap (λ (shapes : List (Option Shape)). let form : Form = (def.key, shapes) in form)
-        (map-alike (λ (one : ColumnDef). role_shape (with_column schema table column) one.role) (λ one. role_shape schema one.role) def.columns (λ n one there. role-shape-column schema table column one.role))
+    (map-alike (λ (one : ColumnDef). role_shape (with_column schema table column) one.role) (λ one. role_shape schema one.role) def.columns (λ n one there. role-shape-column schema table column one.role))
 
 -- One more table
 
@@ -97,8 +97,8 @@ role-shape-table schema table number home (Index target sources position section
 form-table : (schema : SchemaDef) (table : TableDef) (n : ℕ) (def : TableDef) → IsTable schema n def → form_in (with_table schema table) def ≡ form_in schema def
 form-table schema table n def is =
     ap (λ (shapes : List (Option Shape)). let form : Form = (def.key, shapes) in form)
-        (map-alike (λ (one : ColumnDef). role_shape (with_table schema table) one.role) (λ one. role_shape schema one.role) def.columns
-            (λ c one there. role-shape-table schema table (table_no n) def one.role (is.columns c one there).role))
+    (map-alike (λ (one : ColumnDef). role_shape (with_table schema table) one.role) (λ one. role_shape schema one.role) def.columns
+    (λ c one there. role-shape-table schema table (table_no n) def one.role (is.columns c one there).role))
 
 -- Shapes that cells can have
 
@@ -124,7 +124,7 @@ referred-shape : (schema : SchemaDef) (list : Bool) (to : TableNo) (def : TableD
 referred-shape schema list to def sound there =
     let key : key_type schema to ≡ def.key = ap (option_and_then (λ (one : TableDef). one.key)) there in
     subst (λ (o : Option DataType). IfSome (option_map (λ of. let shape : Shape = record { list = list; of = of; reference = true } in shape) o) IsShape) (sym key)
-        (reference-shape list def.key (sound.tables to.0 def there).key_type)
+    (reference-shape list def.key (sound.tables to.0 def there).key_type)
 
 not-bool : (b : Bool) → not b ≡ true → b ≡ false
 not-bool true is = absurd cc
@@ -184,8 +184,8 @@ changed-forms schema new column same (table ∷ tables) (def ∷ defs) zero befo
     let it : table ≡ before = cc in
     let old : form_of before ≡ form_in new def = ap form_of (sym it) ∙ first ∙ sym (same def) in
     let grown : form_of after ≡ form_in new (table_with column def) =
-        is ∙ ap (λ (f : Form). let form : Form = (f.0, f.1 ++ role_shape new column.role ∷ []) in form) old
-        ∙ ap (λ (shapes : List (Option Shape)). let form : Form = (def.key, shapes) in form) (sym (append-map (λ (one : ColumnDef). role_shape new one.role) def.columns (column ∷ []))) in
+    is ∙ ap (λ (f : Form). let form : Form = (f.0, f.1 ++ role_shape new column.role ∷ []) in form) old
+    ∙ ap (λ (shapes : List (Option Shape)). let form : Form = (def.key, shapes) in form) (sym (append-map (λ (one : ColumnDef). role_shape new one.role) def.columns (column ∷ []))) in
     ap (λ (f : Form). f ∷ map form_of tables) grown ∙ ap (λ (fs : List Form). form_in new (table_with column def) ∷ fs) (rest ∙ grown-forms schema new same defs)
 changed-forms schema new column same (table ∷ tables) (def ∷ defs) (suc n) before after formed there is =
     let first : form_of table ≡ form_in schema def = head-form (form_of table) (form_in schema def) (map form_of tables) (map (form_in schema) defs) formed in

@@ -6,4 +6,3 @@ pub mod Make
 pub mod Change
 pub mod Put
 pub mod Create
-pub mod Touched

@@ -1,3 +1,2 @@
 pub mod Root
-pub mod Readers
 pub mod Inside

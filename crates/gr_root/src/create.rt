@@ -112,7 +112,13 @@ fn column_made(
     let grown = with_column(alloc, schema, table, def)?;
     let mut working = with_blank(alloc, tables, table, shape)?;
     let wants = column_wants(alloc, &grown, &working, (table, column))?;
-    match walk(alloc, &grown, limits.records, &mut working, wants.as_slice()) {
+    match walk(
+        alloc,
+        &grown,
+        limits.records,
+        &mut working,
+        wants.as_slice(),
+    ) {
         Ok(news) => Ok(Made {
             schema: SharedSchema::of(alloc, grown)?,
             tables: working.into_kept(alloc)?,

@@ -10,7 +10,6 @@ ghost use Rattle.gr_root.specs.Inside.Change.{IsChangedAt};
 ghost use Rattle.gr_root.specs.Inside.Sound.{records_in};
 ghost use Rattle.gr_root.specs.Inside.Make.{IsBase, Makes};
 
-
 use crate::make::{Made, Places};
 use crate::shared_schema::SharedSchema;
 use crate::working::WorkingTables;

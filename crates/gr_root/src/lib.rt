@@ -6,7 +6,6 @@ mod create;
 mod delete;
 mod make;
 mod put;
-mod readers;
 mod root;
 mod shared_schema;
 mod walk;

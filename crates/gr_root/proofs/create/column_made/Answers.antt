@@ -16,46 +16,46 @@ with_blank-requires-clause-there c = column-place c.args.schema.now c.args.table
 pub with_blank-requires-clause-shape : goal.with_blank-requires-clause-shape
 with_blank-requires-clause-shape c =
     subst (λ (o : Option Shape). IfSome o IsShape) (sym c.role_shape-shape.ensures)
-        (column-shape c.args.schema.now c.args.table c.args.def c.requires.wished (subst IsSound c.in_ok-grown.ensures.exact c.in_ok-grown.ensures.sound))
+    (column-shape c.args.schema.now c.args.table c.args.def c.requires.wished (subst IsSound c.in_ok-grown.ensures.exact c.in_ok-grown.ensures.sound))
 
 pub walk-requires-clause-formed : goal.walk-requires-clause-formed
 walk-requires-clause-formed c =
     let is : IsBlank c.args.schema.now c.in_ok-grown.grown c.args.tables.now c.in_ok-working.working c.args.table c.args.def = record {
-        wished = c.requires.wished;
-        grown = c.in_ok-grown.ensures.exact;
-        blank = subst (λ (o : Option Shape). HasBlank c.args.tables.now c.in_ok-working.working c.args.table o) c.role_shape-shape.ensures c.in_ok-working.ensures;
+      wished = c.requires.wished;
+      grown = c.in_ok-grown.ensures.exact;
+      blank = subst (λ (o : Option Shape). HasBlank c.args.tables.now c.in_ok-working.working c.args.table o) c.role_shape-shape.ensures c.in_ok-working.ensures;
     } in
     blank-formed c.args.schema.now c.in_ok-grown.grown c.args.tables.now c.in_ok-working.working c.args.table c.args.def is c.requires.base.formed
 
 pub walk-requires-clause-within : goal.walk-requires-clause-within
 walk-requires-clause-within c =
     let is : IsBlank c.args.schema.now c.in_ok-grown.grown c.args.tables.now c.in_ok-working.working c.args.table c.args.def = record {
-        wished = c.requires.wished;
-        grown = c.in_ok-grown.ensures.exact;
-        blank = subst (λ (o : Option Shape). HasBlank c.args.tables.now c.in_ok-working.working c.args.table o) c.role_shape-shape.ensures c.in_ok-working.ensures;
+      wished = c.requires.wished;
+      grown = c.in_ok-grown.ensures.exact;
+      blank = subst (λ (o : Option Shape). HasBlank c.args.tables.now c.in_ok-working.working c.args.table o) c.role_shape-shape.ensures c.in_ok-working.ensures;
     } in
     blank-within c.args.limits.records c.args.schema.now c.in_ok-grown.grown c.args.tables.now c.in_ok-working.working c.args.table c.args.def is c.requires.base.within
 
 pub returns-in_ok-places_of-in-Ok : goal.returns-in_ok-places_of-in-Ok
 returns-in_ok-places_of-in-Ok c =
     let is : IsBlank c.args.schema.now c.in_ok-grown.grown c.args.tables.now c.in_ok-working.working c.args.table c.args.def = record {
-        wished = c.requires.wished;
-        grown = c.in_ok-grown.ensures.exact;
-        blank = subst (λ (o : Option Shape). HasBlank c.args.tables.now c.in_ok-working.working c.args.table o) c.role_shape-shape.ensures c.in_ok-working.ensures;
+      wished = c.requires.wished;
+      grown = c.in_ok-grown.ensures.exact;
+      blank = subst (λ (o : Option Shape). HasBlank c.args.tables.now c.in_ok-working.working c.args.table o) c.role_shape-shape.ensures c.in_ok-working.ensures;
     } in
     let are = c.as_slice.ensures.value
-        ∙ wants-are c.args.schema.now c.in_ok-grown.grown c.args.tables.now c.in_ok-working.working c.args.table c.args.def (column_no c.column_count.result) c.in_ok-wants.wants.items is c.column_count.ensures c.in_ok-wants.ensures.exact in
+    ∙ wants-are c.args.schema.now c.in_ok-grown.grown c.args.tables.now c.in_ok-working.working c.args.table c.args.def (column_no c.column_count.result) c.in_ok-wants.wants.items is c.column_count.ensures c.in_ok-wants.ensures.exact in
     made-walked c.args.limits c.args.schema.now c.in_ok-grown.grown c.args.tables.now c.in_ok-working.working c.walk.new.tables c.args.table c.args.def c.as_slice.result.now c.in-Ok.news.items _
-        is are c.in-Ok.ensures.walked c.in_ok-of-in-Ok.ensures c.in_ok-into_kept-in-Ok.ensures
-        (c.in_ok-places_of-in-Ok.ensures ∙ ap (λ (news : List Added). map place_of news) c.as_slice-in-Ok.ensures.value)
+    is are c.in-Ok.ensures.walked c.in_ok-of-in-Ok.ensures c.in_ok-into_kept-in-Ok.ensures
+    (c.in_ok-places_of-in-Ok.ensures ∙ ap (λ (news : List Added). map place_of news) c.as_slice-in-Ok.ensures.value)
 
 pub returns-in-Err : goal.returns-in-Err
 returns-in-Err c =
     let is : IsBlank c.args.schema.now c.in_ok-grown.grown c.args.tables.now c.in_ok-working.working c.args.table c.args.def = record {
-        wished = c.requires.wished;
-        grown = c.in_ok-grown.ensures.exact;
-        blank = subst (λ (o : Option Shape). HasBlank c.args.tables.now c.in_ok-working.working c.args.table o) c.role_shape-shape.ensures c.in_ok-working.ensures;
+      wished = c.requires.wished;
+      grown = c.in_ok-grown.ensures.exact;
+      blank = subst (λ (o : Option Shape). HasBlank c.args.tables.now c.in_ok-working.working c.args.table o) c.role_shape-shape.ensures c.in_ok-working.ensures;
     } in
     let are = c.as_slice.ensures.value
-        ∙ wants-are c.args.schema.now c.in_ok-grown.grown c.args.tables.now c.in_ok-working.working c.args.table c.args.def (column_no c.column_count.result) c.in_ok-wants.wants.items is c.column_count.ensures c.in_ok-wants.ensures.exact in
+    ∙ wants-are c.args.schema.now c.in_ok-grown.grown c.args.tables.now c.in_ok-working.working c.args.table c.args.def (column_no c.column_count.result) c.in_ok-wants.wants.items is c.column_count.ensures c.in_ok-wants.ensures.exact in
     made-ended c.args.limits c.args.schema.now c.in_ok-grown.grown c.args.tables.now c.in_ok-working.working c.args.table c.args.def c.as_slice.result.now c.in-Err.failure is are c.in-Err.ensures.ended

@@ -14,7 +14,7 @@ pub returns-in_ok-table_made-in-Ok : goal.returns-in_ok-table_made-in-Ok
 returns-in_ok-table_made-in-Ok c =
     let same : c.get-schema.result.now ≡ c.args.schema.now = c.get-schema.ensures in
     let made : IsTableMade c.args.schema.now c.args.tables.now c.in-Ok.def c.in_ok-table_made-in-Ok.field-0 =
-        subst (λ (s : SchemaDef). IsTableMade s c.args.tables.now c.in-Ok.def c.in_ok-table_made-in-Ok.field-0) same c.in_ok-table_made-in-Ok.ensures in
+    subst (λ (s : SchemaDef). IsTableMade s c.args.tables.now c.in-Ok.def c.in_ok-table_made-in-Ok.field-0) same c.in_ok-table_made-in-Ok.ensures in
     let faultless : table_fault c.args.schema.now c.args.wish.now ≡ None = ap (λ (s : SchemaDef). table_fault s c.args.wish.now) (sym same) ∙ c.in-Ok.ensures.exact.0 in
     made-table c.args.limits c.args.schema.now c.args.tables.now c.args.wish.now c.in-Ok.def c.in_ok-table_made-in-Ok.field-0 c.requires.base faultless c.in-Ok.ensures.exact.1 made
 
