@@ -4,7 +4,6 @@ ghost use Rattle.std.specs.List.{AllByRecursion};
 ghost use Rattle.std.specs.Option.{option_map_or};
 ghost use Rattle.gr_base.specs.declared.numbers.TableNo.{TableNo};
 ghost use Rattle.gr_db.specs.Changed.{place_of};
-ghost use Rattle.gr_db.specs.Db.{kind_shape, role_shape};
 ghost use Rattle.gr_db.specs.Entry.{IsReadableTarget};
 ghost use Rattle.gr_db.specs.Wants.{new_index_wants};
 ghost use Rattle.gr_db.specs.declared.entry.Change.TheVariants.{CreateColumn, CreateTable};
@@ -18,15 +17,16 @@ ghost use Rattle.gr_schema.specs.Wishes.{IsColumnFor, IsTableFor, IsTextColumn, 
 ghost use Rattle.gr_values.specs.Types.{IsShape};
 
 use crate::make::{Made, Places};
+use crate::put::push_places;
 use crate::shared_schema::SharedSchema;
 use crate::walk::walk;
 use crate::working::WorkingTables;
 use gr_base::{ColumnNo, Failure, Fault, Limits, ListOf, NoMemory, TableNo};
-use gr_db::{Added, Want, new_index_wants};
+use gr_db::{Added, Want, new_index_wants, shape_of};
 use gr_pvec::PVec;
 use gr_schema::{ColumnDef, ColumnWish, Role, Schema, TableDef, TableWish};
 use gr_table::TableRecords;
-use gr_values::{Kind, Shape};
+use gr_values::Shape;
 use std::alloc::Global;
 use std::sync::Arc;
 
@@ -108,7 +108,7 @@ fn column_made(
     ensures { MakesColumn limits schema.now tables.now table def result }
 {
     let column = ColumnNo(schema.column_count(table) as u32);
-    let shape = role_shape(schema, &def.role);
+    let shape = shape_of(schema, &def.role);
     let grown = with_column(alloc, schema, table, def)?;
     let mut working = with_blank(alloc, tables, table, shape)?;
     let wants = column_wants(alloc, &grown, &working, (table, column))?;
@@ -155,35 +155,6 @@ fn with_column(
     let grown = schema.with_column(alloc, table, def)?;
     let _indexes = grown.indexes();
     Ok(grown)
-}
-
-// The shape of a data column's cells; an index has none.
-fn role_shape(schema: &Schema, role: &Role) -> Option<Shape>
-    ensures { result ≡ role_shape schema.now role.now }
-{
-    match role {
-        Role::Scalar(kind) => kind_shape(schema, false, *kind),
-        Role::Vector(kind) => kind_shape(schema, true, *kind),
-        Role::Index { .. } => None,
-    }
-}
-
-// The shape of a column that holds values of a type, or references to a table.
-fn kind_shape(schema: &Schema, list: bool, kind: Kind) -> Option<Shape>
-    ensures { result ≡ kind_shape schema.now list kind }
-{
-    match kind {
-        Kind::Plain(of) => Some(Shape {
-            list,
-            of,
-            reference: false,
-        }),
-        Kind::Reference(to) => Some(Shape {
-            list,
-            of: schema.def(to)?.key?,
-            reference: true,
-        }),
-    }
 }
 
 // The tables, of which one has one more column with the default of the shape.
@@ -259,8 +230,6 @@ fn places_of(alloc: Global, news: &[Added]) -> Result<Places, NoMemory>
     ensures { IfOk result (λ places. places ≡ map place_of news.now) }
 {
     let mut places = Vec::new(alloc);
-    for new in news {
-        places.push((new.want.table, new.id))?;
-    }
+    push_places(&mut places, news)?;
     Ok(ListOf::from_vec(places))
 }

@@ -161,8 +161,11 @@ fn places(
     Ok(ListOf::from_vec(places))
 }
 
-// Adds the places of records that were added.
-fn push_places(places: &mut Vec<(TableNo, RecordId)>, news: &[Added]) -> Result<(), NoMemory>
+/// Adds the places of records that were added.
+pub(crate) fn push_places(
+    places: &mut Vec<(TableNo, RecordId)>,
+    news: &[Added],
+) -> Result<(), NoMemory>
     ensures { OnOk result (places.new.items ≡ places.old.items ++ map place_of news.now) }
 {
     for new in news {

@@ -1,5 +1,5 @@
 // Each call that takes memory, once in each kind of table; what tables are is in the clauses.
-ghost use Rattle.std.specs.Prelude.{◌≡◌, ◌∷◌, [], false, None, Some};
+ghost use Rattle.std.specs.Prelude.{◌≡◌, ◌∷◌, [], false, true, None, Some};
 ghost use Rattle.gr_schema.specs.Sound.{has_keys};
 ghost use Rattle.gr_values.specs.declared.data_type.DataType.{DataType};
 

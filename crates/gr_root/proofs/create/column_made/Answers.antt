@@ -15,7 +15,7 @@ with_blank-requires-clause-there c = column-place c.args.schema.now c.args.table
 
 pub with_blank-requires-clause-shape : goal.with_blank-requires-clause-shape
 with_blank-requires-clause-shape c =
-    subst (λ (o : Option Shape). IfSome o IsShape) (sym c.role_shape-shape.ensures)
+    subst (λ (o : Option Shape). IfSome o IsShape) (sym c.shape_of-shape.ensures)
     (column-shape c.args.schema.now c.args.table c.args.def c.requires.wished (subst IsSound c.in_ok-grown.ensures.exact c.in_ok-grown.ensures.sound))
 
 pub walk-requires-clause-formed : goal.walk-requires-clause-formed
@@ -23,7 +23,7 @@ walk-requires-clause-formed c =
     let is : IsBlank c.args.schema.now c.in_ok-grown.grown c.args.tables.now c.in_ok-working.working c.args.table c.args.def = record {
       wished = c.requires.wished;
       grown = c.in_ok-grown.ensures.exact;
-      blank = subst (λ (o : Option Shape). HasBlank c.args.tables.now c.in_ok-working.working c.args.table o) c.role_shape-shape.ensures c.in_ok-working.ensures;
+      blank = subst (λ (o : Option Shape). HasBlank c.args.tables.now c.in_ok-working.working c.args.table o) c.shape_of-shape.ensures c.in_ok-working.ensures;
     } in
     blank-formed c.args.schema.now c.in_ok-grown.grown c.args.tables.now c.in_ok-working.working c.args.table c.args.def is c.requires.base.formed
 
@@ -32,7 +32,7 @@ walk-requires-clause-within c =
     let is : IsBlank c.args.schema.now c.in_ok-grown.grown c.args.tables.now c.in_ok-working.working c.args.table c.args.def = record {
       wished = c.requires.wished;
       grown = c.in_ok-grown.ensures.exact;
-      blank = subst (λ (o : Option Shape). HasBlank c.args.tables.now c.in_ok-working.working c.args.table o) c.role_shape-shape.ensures c.in_ok-working.ensures;
+      blank = subst (λ (o : Option Shape). HasBlank c.args.tables.now c.in_ok-working.working c.args.table o) c.shape_of-shape.ensures c.in_ok-working.ensures;
     } in
     blank-within c.args.limits.records c.args.schema.now c.in_ok-grown.grown c.args.tables.now c.in_ok-working.working c.args.table c.args.def is c.requires.base.within
 
@@ -41,7 +41,7 @@ returns-in_ok-places_of-in-Ok c =
     let is : IsBlank c.args.schema.now c.in_ok-grown.grown c.args.tables.now c.in_ok-working.working c.args.table c.args.def = record {
       wished = c.requires.wished;
       grown = c.in_ok-grown.ensures.exact;
-      blank = subst (λ (o : Option Shape). HasBlank c.args.tables.now c.in_ok-working.working c.args.table o) c.role_shape-shape.ensures c.in_ok-working.ensures;
+      blank = subst (λ (o : Option Shape). HasBlank c.args.tables.now c.in_ok-working.working c.args.table o) c.shape_of-shape.ensures c.in_ok-working.ensures;
     } in
     let are = c.as_slice.ensures.value
     ∙ wants-are c.args.schema.now c.in_ok-grown.grown c.args.tables.now c.in_ok-working.working c.args.table c.args.def (column_no c.column_count.result) c.in_ok-wants.wants.items is c.column_count.ensures c.in_ok-wants.ensures.exact in
@@ -54,7 +54,7 @@ returns-in-Err c =
     let is : IsBlank c.args.schema.now c.in_ok-grown.grown c.args.tables.now c.in_ok-working.working c.args.table c.args.def = record {
       wished = c.requires.wished;
       grown = c.in_ok-grown.ensures.exact;
-      blank = subst (λ (o : Option Shape). HasBlank c.args.tables.now c.in_ok-working.working c.args.table o) c.role_shape-shape.ensures c.in_ok-working.ensures;
+      blank = subst (λ (o : Option Shape). HasBlank c.args.tables.now c.in_ok-working.working c.args.table o) c.shape_of-shape.ensures c.in_ok-working.ensures;
     } in
     let are = c.as_slice.ensures.value
     ∙ wants-are c.args.schema.now c.in_ok-grown.grown c.args.tables.now c.in_ok-working.working c.args.table c.args.def (column_no c.column_count.result) c.in_ok-wants.wants.items is c.column_count.ensures c.in_ok-wants.ensures.exact in

@@ -1,8 +1,0 @@
-mod Cutting
-mod Nodes
-mod Numbers
-mod Levels
-mod Making
-mod Opening
-mod Rows
-mod Telling

@@ -1,4 +1,0 @@
-pub mod Told
-pub mod Names
-pub mod Literals
-pub mod Parts

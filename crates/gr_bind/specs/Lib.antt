@@ -1,4 +1,0 @@
-pub mod Kinds
-pub mod Columns
-pub mod Typing
-pub mod Inside
