@@ -9,5 +9,6 @@ pub mod PutLemmas
 pub mod ShapesLemmas
 pub mod CreateLemmas
 pub mod ReadableLemmas
+pub mod ReadersLemmas
 pub mod AppliedFew
 pub mod AppliedLemmas

@@ -6,3 +6,4 @@ pub mod Make
 pub mod Change
 pub mod Put
 pub mod Create
+pub mod Touched

@@ -6,6 +6,7 @@ mod create;
 mod delete;
 mod make;
 mod put;
+mod readers;
 mod root;
 mod shared_schema;
 mod walk;

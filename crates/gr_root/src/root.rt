@@ -35,8 +35,8 @@ pub struct Root {
     journal: Journal,
     merges: u64,
     schema: SharedSchema,
-    tables: PVec<TableRecords>,
-    touched: PVec<Places>,
+    pub(crate) tables: PVec<TableRecords>,
+    pub(crate) touched: PVec<Places>,
 }
 
 impl Model for Root {
