@@ -1,7 +1,6 @@
 -- The cells of the records that are seen, and the masks and prefixes over them.
-use Rattle.std.proofs.Common.{ℕ, ◌≡◌, ◌+◌, ◌*◌, ◌/◌, ◌<◌, ◌^◌, Bool, true, false, List, map, refl, sym, ap, subst, ◌∙◌, arith, ◌↔◌, ℤ}
+use Rattle.std.proofs.Common.{ℕ, ◌≡◌, ◌+◌, ◌*◌, ◌/◌, ◌<◌, ◌^◌, Bool, true, false, List, refl, sym, ap, subst, ◌∙◌, arith, ◌↔◌, ℤ}
 use Rattle.std.specs.Prelude.{None, Some, Option, IsTrue, IsBitSet, slice_get, bit_and}
-use Rattle.std.specs.FinMap.{get}
 use Rattle.std.specs.Int.{bit_at}
 use Rattle.std.specs.Prelude.{min}
 use Rattle.std.specs.Option.{option_and_then, option_flatten, option_map, option_map_or}
@@ -12,15 +11,12 @@ use Rattle.std.proofs.lemmas.Option.{slice_get-map}
 use Rattle.gr_base.specs.Keys.{KeyMap}
 use Rattle.gr_base.specs.declared.compare.Cmp.{Cmp}
 use Rattle.gr_base.specs.declared.numbers.ColumnNo.{ColumnNo}
-use Rattle.gr_base.specs.declared.numbers.RecordId.{RecordId}
 use Rattle.gr_columns.specs.Cells.{ColumnOf, cell_at}
 use Rattle.gr_columns.specs.Masks.{IsBlockMask, compares_cell}
 use Rattle.gr_columns.specs.Places.{value_at}
 use Rattle.gr_columns.specs.Truths.{IsWord}
-use Rattle.gr_columns.specs.declared.places.TheConstants.{BLOCK_CELLS}
 use Rattle.gr_expr.specs.Tables.{record_id, record_in}
 use Rattle.gr_values.specs.declared.data_type.DataType.{DataType}
-use Rattle.gr_values.specs.declared.data_type.Shape.{Shape}
 use Rattle.gr_values.specs.declared.value.Cell.{Cell}
 use Rattle.gr_values.specs.declared.value.Key.{Key}
 use Rattle.gr_table.specs.Inside.Held.{IsHeld}

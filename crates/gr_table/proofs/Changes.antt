@@ -1,24 +1,21 @@
 -- The records that are seen after each change.
-use Rattle.std.proofs.Common.{ℕ, zero, suc, ◌≡◌, ◌≢◌, ◌⊎◌, inl, inr, ◌+◌, ◌<◌, ◌≤◌, Bool, true, false, cond, List, [], ◌∷◌, ◌++◌, map, length, refl, sym, ap, subst, ◌∙◌, arith, set}
+use Rattle.std.proofs.Common.{ℕ, zero, suc, ◌≡◌, ◌≢◌, ◌+◌, Bool, true, false, cond, List, [], ◌∷◌, ◌++◌, refl, sym, ap, ◌∙◌, arith, set}
 use Rattle.std.specs.Prelude.{None, Some, Option, slice_get}
 use Rattle.std.specs.Option.{option_map}
-use Rattle.std.proofs.lemmas.Bool.{cases_eq}
 use Rattle.std.proofs.lemmas.List.{map-append, map-set}
-use Rattle.std.proofs.lemmas.Option.{none-some, same_Some, slice_get-map}
+use Rattle.std.proofs.lemmas.Option.{same_Some, slice_get-map}
 use Rattle.gr_base.specs.Keys.{KeyMap}
-use Rattle.gr_base.specs.declared.numbers.ColumnNo.{ColumnNo}
 use Rattle.gr_base.specs.declared.numbers.RecordId.{RecordId}
 use Rattle.gr_columns.specs.Cells.{ColumnOf, SetsCell, cell_at}
 use Rattle.gr_columns.specs.Places.{value_at}
 use Rattle.gr_db.specs.Db.{blank, changed_in, new_record, with_cell, with_column_of, with_one_more, with_record, without}
-use Rattle.gr_expr.specs.Tables.{Record, Records, record_id}
+use Rattle.gr_expr.specs.Tables.{Record, record_id}
 use Rattle.gr_schema.specs.Schema.{changed_at}
 use Rattle.gr_values.specs.Defaults.{default_of}
 use Rattle.gr_values.specs.declared.data_type.DataType.{DataType}
-use Rattle.gr_values.specs.declared.data_type.Shape.{Shape}
 use Rattle.gr_values.specs.declared.value.Cell.{Cell}
 use Rattle.gr_values.specs.declared.value.Key.{Key}
-use Rattle.gr_table.specs.Inside.Held.{IsFilled, IsHeld}
+use Rattle.gr_table.specs.Inside.Held.{IsHeld}
 use Rattle.gr_table.specs.Inside.Seen.{cells_in, first, records_seen, seen, shapes_in}
 use Rattle.gr_table.proofs.Lists.{changed_at_set, first-changed, first-more, first-same, map-first}
 

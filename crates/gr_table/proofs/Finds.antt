@@ -1,5 +1,5 @@
 -- What the map says of the records that are seen.
-use Rattle.std.proofs.Common.{ℕ, ◌≡◌, Bool, true, false, List, refl, sym, ap, ◌∙◌}
+use Rattle.std.proofs.Common.{ℕ, ◌≡◌, Bool, true, false, List, sym, ap, ◌∙◌}
 use Rattle.std.specs.Prelude.{None, Some, Option}
 use Rattle.std.specs.FinMap.{get}
 use Rattle.std.proofs.lemmas.Bool.{false≢true}

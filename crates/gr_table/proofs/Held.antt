@@ -1,16 +1,16 @@
 -- What the parts of a table keep of each other, after each change.
-use Rattle.std.proofs.Common.{ℕ, zero, suc, ◌≡◌, ◌≢◌, ◌⊎◌, inl, inr, ◌+◌, ◌<◌, ◌≤◌, Bool, true, false, cond, List, [], ◌∷◌, ◌++◌, map, length, refl, sym, ap, subst, ◌∙◌, arith, set}
+use Rattle.std.proofs.Common.{ℕ, zero, suc, ◌≡◌, ◌≢◌, ◌⊎◌, inl, inr, ◌+◌, Bool, true, false, List, [], ◌∷◌, ◌++◌, length, refl, sym, ap, subst, ◌∙◌, arith, set}
 use Rattle.std.specs.Prelude.{None, Some, Option, slice_get}
-use Rattle.std.specs.FinMap.{empty, get, get-empty, insert, remove}
+use Rattle.std.specs.FinMap.{empty, get, get-empty}
 use Rattle.std.specs.Cmp.Lexicographic.{slice_cmp}
 use Rattle.std.specs.Ordering.{nat_cmp}
-use Rattle.std.proofs.lemmas.Bool.{cases_lt, cases_eq}
+use Rattle.std.proofs.lemmas.Bool.{cases_eq}
 use Rattle.std.proofs.lemmas.Option.{none-some, same_Some}
 use Rattle.gr_base.specs.Keys.{KeyMap}
 use Rattle.gr_base.specs.declared.numbers.RecordId.{RecordId}
 use Rattle.gr_columns.specs.Cells.{ColumnOf, SetsCell, cell_at}
 use Rattle.gr_values.specs.Fits.{IsCellOf}
-use Rattle.gr_columns.specs.Places.{SetsPlace, value_at}
+use Rattle.gr_columns.specs.Places.{value_at}
 use Rattle.gr_expr.specs.Tables.{record_id}
 use Rattle.gr_table.proofs.Lists.{slice_get_push}
 use Rattle.gr_values.specs.Defaults.{default_of}
@@ -24,7 +24,6 @@ use Rattle.gr_table.specs.Inside.Held.{IsFilled, IsHeld, IsOfKey}
 use Rattle.gr_table.specs.Table.{IsKeyIn}
 use Rattle.gr_table.proofs.Defaults.{default_fits}
 use Rattle.gr_table.proofs.KeyBytes.{same_key}
-use Rattle.gr_table.proofs.Maps.{get_here, get_inserted, get_left, get_other, get_stays}
 
 -- what stands in a list with another item at a place is that item or stood there before
 set_get : {X : Type 0} (xs : List X) (c : ℕ) (y : X) (n : ℕ) (x : X) → slice_get (set xs c y) n ≡ Some x → (y ≡ x) ⊎ (slice_get xs n ≡ Some x)

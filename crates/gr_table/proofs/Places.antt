@@ -1,10 +1,10 @@
 -- The place of the first item that passes.
-use Rattle.std.proofs.Common.{ℕ, zero, suc, ◌≡◌, ◌+◌, Bool, true, false, cond, not, List, [], ◌∷◌, length, refl, sym}
+use Rattle.std.proofs.Common.{ℕ, zero, suc, ◌≡◌, ◌+◌, Bool, true, false, cond, not, List, ◌∷◌, length, refl, sym}
 use Rattle.std.proofs.Math.Numerals.{one-add}
 use Prim.Native.Nat.compare
 use Rattle.std.specs.Prelude.{None, Some, Option, nat_lt}
 use Rattle.std.specs.Option.{option_map}
-use Rattle.std.specs.List.{position, position_or_len, prefix_len}
+use Rattle.std.specs.List.{position, position_or_len}
 
 option_map-cond : {A B : Type 0} (f : A → B) (b : Bool) (x : A) → option_map f (cond b (Some x) None) ≡ cond b (Some (f x)) None
 option_map-cond f true x = refl

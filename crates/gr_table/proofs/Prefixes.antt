@@ -1,7 +1,6 @@
 -- The records whose keys begin so.
 use Rattle.std.proofs.Common.{ℕ, ◌≡◌, Bool, true, List, sym, ap, subst, ◌∙◌, ◌==◌}
-use Rattle.std.specs.Prelude.{None, Some, Option}
-use Rattle.std.specs.FinMap.{get}
+use Rattle.std.specs.Prelude.{Some, Option}
 use Rattle.std.specs.List.{starts_with}
 use Rattle.gr_base.specs.Keys.{AreFound, IsFound, KeyMap}
 use Rattle.gr_base.specs.declared.numbers.RecordId.{RecordId}

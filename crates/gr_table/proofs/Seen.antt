@@ -1,27 +1,23 @@
 -- The records that are seen, by id.
-use Rattle.std.proofs.Common.{ℕ, zero, suc, ◌≡◌, ◌≢◌, ◌⊎◌, inl, inr, ◌+◌, ◌<◌, ◌≤◌, Bool, true, false, cond, List, [], ◌∷◌, ◌++◌, map, length, length-append, refl, sym, ap, subst, ◌∙◌, arith}
+use Rattle.std.proofs.Common.{ℕ, zero, suc, ◌≡◌, inl, inr, ◌+◌, Bool, true, false, cond, List, refl, sym, ap, subst, ◌∙◌, arith}
 use Rattle.std.specs.Prelude.{None, Some, Option, is_some, slice_get}
-use Rattle.std.specs.FinMap.{get}
-use Rattle.std.specs.List.{position}
-use Rattle.std.specs.Option.{option_and_then, option_flatten, option_map, option_map_or}
-use Rattle.std.proofs.lemmas.Bool.{cases_lt, cases_eq}
+use Rattle.std.specs.Option.{option_flatten, option_map, option_map_or}
+use Rattle.std.proofs.lemmas.Bool.{cases_lt}
 use Rattle.std.proofs.lemmas.List.{length-map}
 use Rattle.std.proofs.lemmas.Option.{none-some, same_Some, slice_get-map}
 use Rattle.gr_base.specs.Keys.{KeyMap}
 use Rattle.gr_base.specs.declared.numbers.RecordId.{RecordId}
 use Rattle.gr_columns.specs.Cells.{ColumnOf, cell_at}
 use Rattle.gr_columns.specs.Places.{value_at}
-use Rattle.gr_expr.specs.Tables.{Record, Records, has_key, id_in, record_id, record_in}
+use Rattle.gr_expr.specs.Tables.{Record, has_key, id_in, record_id, record_in}
 use Rattle.gr_values.specs.Same.{is_same_key}
 use Rattle.gr_values.specs.declared.data_type.DataType.{DataType}
 use Rattle.gr_values.specs.declared.data_type.Shape.{Shape}
 use Rattle.gr_values.specs.declared.value.Cell.{Cell}
 use Rattle.gr_values.specs.declared.value.Key.{Key}
-use Rattle.gr_table.specs.Inside.Bytes.{key_bytes}
 use Rattle.gr_table.specs.Inside.Held.{IsHeld}
-use Rattle.gr_table.specs.Inside.Seen.{cells_in, first, records_seen, seen, shapes_in}
+use Rattle.gr_table.specs.Inside.Seen.{cells_in, records_seen, seen, shapes_in}
 use Rattle.gr_table.specs.Sound.{IsCellIn, IsRecord, IsTable}
-use Rattle.gr_table.specs.Table.{IsKeyIn}
 use Rattle.gr_table.proofs.Keys.{itself, same_is}
 use Rattle.gr_table.proofs.Lists.{first_at, first_past, position_first, position_none}
 

@@ -1,5 +1,5 @@
 -- What each change of the parts does to the table that is seen.
-use Rattle.std.proofs.Common.{ℕ, zero, suc, ◌≡◌, ◌≢◌, ◌⊎◌, inl, inr, ◌+◌, ◌<◌, ◌≤◌, Bool, true, false, cond, List, [], ◌∷◌, ◌++◌, map, length, refl, sym, ap, subst, ◌∙◌, arith, set, get_or}
+use Rattle.std.proofs.Common.{ℕ, suc, ◌≡◌, ◌≢◌, inl, inr, ◌+◌, Bool, true, false, List, [], ◌∷◌, ◌++◌, length, refl, sym, ap, subst, ◌∙◌, arith, set, get_or}
 use Rattle.std.specs.Prelude.{None, Some, Option, IfSome, MatchOption, is_some, slice_get}
 use Rattle.std.specs.Option.{option_flatten, option_map}
 use Rattle.std.proofs.lemmas.List.{map-append}
@@ -19,17 +19,17 @@ use Rattle.gr_values.specs.declared.data_type.Shape.{Shape}
 use Rattle.gr_values.specs.declared.value.Cell.{Cell}
 use Rattle.gr_values.specs.declared.value.Key.{Key}
 use Rattle.gr_table.specs.Inside.Held.{IsHeld}
-use Rattle.gr_table.specs.Inside.Seen.{cells_in, records_seen, seen, shapes_in}
+use Rattle.gr_table.specs.Inside.Seen.{records_seen, seen, shapes_in}
 use Rattle.gr_table.specs.Table.{TableOf}
 use Rattle.gr_table.proofs.Changes.{records_added, records_column, records_removed, records_set, set_same, shape_set}
 use Rattle.gr_table.specs.Inside.Bytes.{key_bytes}
 use Rattle.gr_table.specs.Inside.Puts.{AddsRecord, LosesKey, PutsKey}
-use Rattle.gr_table.specs.Inside.Held.{IsFilled, IsOfKey}
+use Rattle.gr_table.specs.Inside.Held.{IsFilled}
 use Rattle.gr_table.specs.Table.{IsKeyIn, id_found}
 use Rattle.gr_table.proofs.Maps.{get_here, get_inserted, get_left, get_other, get_stays}
 use Rattle.gr_columns.specs.Places.{SetsPlace}
-use Rattle.std.specs.FinMap.{get, insert, remove}
-use Rattle.gr_expr.specs.Tables.{record_id, id_in}
+use Rattle.std.specs.FinMap.{get, insert}
+use Rattle.gr_expr.specs.Tables.{record_id}
 use Rattle.gr_table.proofs.Lists.{length-first}
 use Rattle.gr_table.proofs.Held.{filled_new, held_added, held_column, held_columns, held_keys, held_removed, held_set, not_led}
 use Rattle.gr_table.proofs.Seen.{found_id, is_alive}

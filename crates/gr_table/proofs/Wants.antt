@@ -1,5 +1,5 @@
 -- What is answered where a record is wanted.
-use Rattle.std.proofs.Common.{ℕ, ◌≡◌, ◌+◌, ◌<◌, ◌≤◌, length, refl, sym, arith}
+use Rattle.std.proofs.Common.{ℕ, ◌≡◌, ◌<◌, ◌≤◌, length, refl, sym, arith}
 use Rattle.std.specs.Prelude.{None, Some, Option}
 use Rattle.gr_base.specs.declared.numbers.RecordId.{RecordId}
 use Rattle.gr_values.specs.declared.value.Key.{Key}

@@ -1,5 +1,5 @@
 -- Masks over the records of a block of ids, and the records that a prefix of their keys finds.
-use Rattle.std.specs.Prelude.{◌≡◌, ◌==◌, ◌<◌, ◌+◌, ◌*◌, ◌^◌, ◌↔◌, ℕ, ℤ, Bool, true, false, is_some, IsTrue, IsBitSet, Option, Some, None, List, map, slice_get}
+use Rattle.std.specs.Prelude.{◌≡◌, ◌==◌, ◌<◌, ◌+◌, ◌*◌, ◌^◌, ◌↔◌, ℕ, ℤ, Bool, true, false, IsTrue, IsBitSet, Option, Some, List, map, slice_get}
 use Rattle.std.specs.List.{Contains, starts_with}
 use Rattle.std.specs.List.Sorted.{IsStrictlyIncreasing}
 use Rattle.std.specs.Option.{option_and_then, option_flatten, option_map_or}

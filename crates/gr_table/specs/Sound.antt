@@ -1,5 +1,5 @@
 -- What holds of every table.
-use Rattle.std.specs.Prelude.{◌≡◌, ℕ, MatchOption, Some, None, Option, List, length, slice_get}
+use Rattle.std.specs.Prelude.{◌≡◌, ℕ, Some, None, Option, length, slice_get}
 use Rattle.gr_values.specs.Fits.{IsCellOf}
 use Rattle.gr_expr.specs.Tables.{Record, id_in, record_id, record_in}
 use Rattle.gr_table.specs.Table.{IsKeyIn, TableOf}

@@ -1,6 +1,6 @@
 -- What the records of one table are seen as, and what is answered where a record is wanted.
-use Rattle.std.specs.Prelude.{ℕ, ◌≡◌, ◌<◌, ◌+◌, ⊤, MatchOption, Option, Some, None, Result, Ok, Err, List, [], length, slice_get}
-use Rattle.std.specs.Option.{option_and_then, option_flatten}
+use Rattle.std.specs.Prelude.{ℕ, ◌≡◌, ◌<◌, ◌+◌, ⊤, MatchOption, Option, Some, None, Result, Ok, Err, List, [], length}
+use Rattle.std.specs.Option.{option_and_then}
 use Rattle.gr_base.specs.declared.numbers.RecordId.{RecordId}
 use Rattle.gr_db.specs.Db.{with_record}
 use Rattle.gr_expr.specs.Tables.{Records, id_in, record_id}

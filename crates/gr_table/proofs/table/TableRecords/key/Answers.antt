@@ -1,4 +1,4 @@
-use Rattle.std.proofs.Common.{ap, refl, sym, ◌∙◌}
+use Rattle.std.proofs.Common.{ap, sym, ◌∙◌}
 use Rattle.std.specs.Option.{option_and_then}
 use Rattle.gr_expr.specs.Tables.{record_in}
 use Rattle.gr_table.proofs.Seen.{record_seen, seen_alive, seen_dead}

@@ -1,5 +1,4 @@
 use Rattle.std.proofs.Common.{ap, subst, ◌∙◌}
-use Rattle.gr_table.specs.Inside.Trees.{map_of}
 use Rattle.gr_table.specs.Masks.{AreWithPrefix}
 use Rattle.gr_table.specs.Table.{TableOf}
 use Rattle.gr_table.proofs.Outcomes.{if_ok}

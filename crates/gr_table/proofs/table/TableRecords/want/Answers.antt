@@ -1,5 +1,4 @@
 use Rattle.std.proofs.Common.{◌≡◌, ◌<◌, ◌≤◌, length, suc, sym, ap, subst, ◌∙◌, arith}
-use Rattle.std.specs.Prelude.{Option}
 use Rattle.gr_table.specs.Inside.Seen.{seen}
 use Rattle.gr_table.proofs.Lists.{length-first}
 use Rattle.gr_table.proofs.Wants.{is_added, is_full}
