@@ -1,0 +1,12 @@
+pub mod ListLemmas
+pub mod PartLemmas
+pub mod TileLemmas
+pub mod LevelLemmas
+pub mod PostingLemmas
+pub mod LocatedLemmas
+pub mod ReplacedLemmas
+pub mod UpLemmas
+pub mod IndexLemmas
+pub mod FoldLemmas
+pub mod RoomLemmas
+pub mod TestLemmas

@@ -1,0 +1,4 @@
+pub mod Parts
+pub mod Located
+pub mod Walks
+pub mod Room

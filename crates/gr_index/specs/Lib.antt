@@ -1,0 +1,4 @@
+pub mod Levels
+pub mod Ranges
+pub mod Added
+pub mod Inside

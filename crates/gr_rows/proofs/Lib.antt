@@ -1,0 +1,13 @@
+pub mod ArrayLemmas
+pub mod BlankLemmas
+pub mod CommaLemmas
+pub mod DistinctLemmas
+pub mod KeyLemmas
+pub mod NamesLemmas
+pub mod ObjectLemmas
+pub mod PlacesLemmas
+pub mod PutLemmas
+pub mod RowsLemmas
+pub mod SettingsLemmas
+pub mod SlotLemmas
+pub mod Telling

@@ -1,0 +1,5 @@
+pub mod Text
+pub mod Names
+pub mod Members
+pub mod Rows
+pub mod Inside

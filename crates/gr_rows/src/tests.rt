@@ -1,0 +1,6 @@
+// Load data by hand, with memory at hand.
+mod array;
+mod object;
+mod shown;
+mod sites;
+mod values;
