@@ -5,3 +5,4 @@ pub mod Apply
 pub mod Accepted
 pub mod Changed
 pub mod Inside
+pub mod Fitting
