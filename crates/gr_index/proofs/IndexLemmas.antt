@@ -85,6 +85,7 @@ first_of_level level parts n f e l = by c.same refl c.are_same
   where
     c : CutInThree level parts
     c = cut_in_three level parts f
+
     by : (ys : List Part) → c.same ≡ ys → AllByRecursion (λ p. p.level ≡ level) ys → (n < length parts) × ((d : Part) → (get_or parts n d).level ≡ level)
     by [] h a =
         let none = sym (length-filter (is_of_level level) parts) ∙ (ap length (filter_of_level level parts c) ∙ ap length h) in

@@ -23,9 +23,9 @@ falls_right (x ∷ xs) ys f = falls_right xs ys f.1
 pub falls_both : (level : ℕ) (xs ys : List Part) → LevelsFall xs → LevelsFall ys → AllByRecursion (λ p. level ≤ p.level) xs → AllByRecursion (λ p. p.level ≤ level) ys → LevelsFall (xs ++ ys)
 falls_both level [] ys f g a b = g
 falls_both level (x ∷ xs) ys f g a b = let h = a.0 in (
-      all_both (λ q. q.level ≤ x.level) xs ys f.0 (all_weaker (λ q. q.level ≤ level) (λ q. q.level ≤ x.level) (λ q l. omega (arith, l, h)) ys b),
-      falls_both level xs ys f.1 g a.1 b,
-    )
+  all_both (λ q. q.level ≤ x.level) xs ys f.0 (all_weaker (λ q. q.level ≤ level) (λ q. q.level ≤ x.level) (λ q l. omega (arith, l, h)) ys b),
+  falls_both level xs ys f.1 g a.1 b,
+)
 
 -- those before one are of no lower level
 pub falls_before : (xs : List Part) (y : Part) (ys : List Part) → LevelsFall (xs ++ y ∷ ys) → AllByRecursion (λ p. y.level ≤ p.level) xs

@@ -177,10 +177,13 @@ located place from to parts start stop t l b e =
   where
     bounded : EndsBefore to parts stop → stop ≤ length parts
     bounded e = let i = e.is in let j = e.bound in omega (arith, i, j)
+
     no_le : (a b : ℕ) → leb a b ≡ true → a ≤ b
     no_le a b h = grind (arith, nat_tests)
+
     no_gt : (a b : ℕ) → leb a b ≡ false → b < a
     no_gt a b h = grind (arith, nat_tests)
+
     order : (b : Bool) → leb stop start ≡ b → from ≡ end_of place (take start parts) → to ≡ end_of place (take stop parts) → start < stop
     order false h at till = no_gt stop start h
     order true h at till = let r = ends_rise place stop start parts t (no_le stop start h) in absurd (omega (arith, r, at, till, l))

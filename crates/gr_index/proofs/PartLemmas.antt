@@ -56,6 +56,7 @@ filtered p q w (s ∷ ss) (h ∷ hs) e = kept (filtered p q w ss hs (omega arith
     kept_both : {X Y : Type 0} (x : X) (y : Y) (xs : List X) (ys : List Y) (t : Bool) → length xs ≡ length ys → length (cond t (x ∷ xs) xs) ≡ length (cond t (y ∷ ys) ys)
     kept_both x y xs ys true l = ap suc l
     kept_both x y xs ys false l = l
+
     kept : length (filter q ss) ≡ length (filter p (parts_of ss hs)) → q s ≡ p (part_of s h) → length (filter q (s ∷ ss)) ≡ length (filter p (parts_of (s ∷ ss) (h ∷ hs)))
     kept l m = ap (λ t. length (cond t (s ∷ filter q ss) (filter q ss))) m ∙ kept_both s (part_of s h) (filter q ss) (filter p (parts_of ss hs)) (p (part_of s h)) l
 

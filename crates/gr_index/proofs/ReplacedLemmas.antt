@@ -41,6 +41,7 @@ few_around level xs p ys n few room = by (eqb p.level level) refl
   where
     same : (a b : ℕ) → eqb a b ≡ true → a ≡ b
     same a b h = grind (arith, nat_tests)
+
     by : (t : Bool) → eqb p.level level ≡ t → count_by (is_of_level level) (xs ++ p ∷ [] ++ ys) ≤ n
     by true e =
         let one : count_by (is_of_level level) (p ∷ []) ≡ 1 = count_same level (p ∷ []) (same p.level level e, tt) in
@@ -55,11 +56,11 @@ few_around level xs p ys n few room = by (eqb p.level level) refl
         omega (arith, none, all, both, few)
 
 pub levels_joined : (place : ℕ) (xs : List Part) (p : Part) (ys : List Part) → Joins place xs p ys
-  → AllByRecursion (λ q. q.from + FOLDED_SEGMENTS ^ q.level ≤ q.to) (xs ++ p ∷ [] ++ ys)
-  → AllByRecursion (λ q. 0 < q.level → q.is_chunk ≡ true) (xs ++ p ∷ [] ++ ys)
-  → AllByRecursion HasPlaces (xs ++ p ∷ [] ++ ys)
-  → AllByRecursion (λ q. IsInOrder q.postings) (xs ++ p ∷ [] ++ ys)
-  → AreLevels place (xs ++ p ∷ [] ++ ys)
+    → AllByRecursion (λ q. q.from + FOLDED_SEGMENTS ^ q.level ≤ q.to) (xs ++ p ∷ [] ++ ys)
+    → AllByRecursion (λ q. 0 < q.level → q.is_chunk ≡ true) (xs ++ p ∷ [] ++ ys)
+    → AllByRecursion HasPlaces (xs ++ p ∷ [] ++ ys)
+    → AllByRecursion (λ q. IsInOrder q.postings) (xs ++ p ∷ [] ++ ys)
+    → AreLevels place (xs ++ p ∷ [] ++ ys)
 levels_joined place xs p ys j wide chunks places order =
     let front = tile_both place xs (p ∷ []) j.tile_before (j.begins, j.some, tt) in
     let end : end_of place (xs ++ p ∷ []) ≡ p.to = end_of-append place xs (p ∷ []) in

@@ -119,6 +119,7 @@ level_fits place xs (y ∷ ys) zs a n = by (goes_up_from y.level xs (y ∷ ys) (
         base.lower
         (le_of FOLDED_SEGMENTS (length (y ∷ ys)) (and_left size (same && (none && room)) e))
         (lt_of (count_by (is_of_level (y.level + 1)) parts) MOST_SEGMENTS (and_right none room e2))
+
     by : (t : Bool) → goes_up_from y.level xs (y ∷ ys) (xs ++ (y ∷ ys ++ zs)) ≡ t → LevelFits place (level_after xs (y ∷ ys) (xs ++ (y ∷ ys ++ zs))) xs (y ∷ ys) zs
     by true e = subst (λ l. LevelFits place l xs (y ∷ ys) zs) (sym (ap (λ t. if t then y.level + 1 else y.level) e)) (up e)
     by false e = subst (λ l. LevelFits place l xs (y ∷ ys) zs) (sym (ap (λ t. if t then y.level + 1 else y.level) e)) (stays place xs y ys zs a)

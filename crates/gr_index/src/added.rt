@@ -36,12 +36,7 @@ impl Index {
     }
 
     // The index with room in a level.
-    fn with_room<A: Alive>(
-        &self,
-        alloc: Global,
-        level: u32,
-        alive: &A,
-    ) -> Result<Index, NoMemory>
+    fn with_room<A: Alive>(&self, alloc: Global, level: u32, alive: &A) -> Result<Index, NoMemory>
         ensures { IfOk result (λ roomy. HasRoomAt (A.lives alive.now) level self.now roomy) }
     {
         if self.count(level) < MOST_SEGMENTS {

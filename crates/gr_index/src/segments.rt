@@ -8,10 +8,7 @@ use std::alloc::Global;
 use std::sync::Arc;
 
 /// Appends the segments once more, which share their postings.
-pub(crate) fn push_shared(
-    segments: &mut Vec<Segment>,
-    others: &[Segment],
-) -> Result<(), NoMemory>
+pub(crate) fn push_shared(segments: &mut Vec<Segment>, others: &[Segment]) -> Result<(), NoMemory>
     ensures { OnOk result (map held_of segments.new.items ≡ map held_of segments.old.items ++ map held_of others.now) }
 {
     segments.reserve(others.len())?;

@@ -37,13 +37,7 @@ fn buffer(alloc: Global, term: u32, id: u32, place: u64) -> Result<Buffer, Fail>
 }
 
 // The index with one posting more, or an empty one where its place is too low.
-fn with_posting(
-    alloc: Global,
-    index: &Index,
-    term: u32,
-    id: u32,
-    place: u64,
-) -> Result<Index, Fail>
+fn with_posting(alloc: Global, index: &Index, term: u32, id: u32, place: u64) -> Result<Index, Fail>
     requires { place < u64.MAX }
 {
     let postings = buffer(alloc, term, id, place)?;

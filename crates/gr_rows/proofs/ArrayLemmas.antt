@@ -125,8 +125,7 @@ module _ (schema : SchemaDef) (home : TableDef) (row : ℕ) where
   by_place columns values (Some place) named within same =
       let names : length (column_names columns) ≡ length columns = length-map columns (λ (named : Named). named.name) in
       let count : length values ≡ length (column_names columns) + 1 = same ∙ length_inserted (column_names columns) place key_name (omega (arith, names, within)) in
-      let at = slice_get-within values place (omega (arith, names, count, within)) in
-      (
+      let at = slice_get-within values place (omega (arith, names, count, within)) in (
         insert (column_members columns (remove values place)) place (key_name, view at.0),
         with_one (column_names columns) place key_name values at.0 at.1 (omega (arith, names, within)) count,
         key_given place columns values at.0 named at.1,
@@ -144,14 +143,13 @@ apart_names : (schema : SchemaDef) (home : TableDef) (first : Named) (columns : 
     → AllByRecursion (λ number. nat_eq first.column.0 number ≡ false) (column_numbers columns) → AllByRecursion (λ name. bytes_eq first.name name ≡ false) (map (λ (member : Member). member.0) (column_members columns values))
 apart_names schema home first [] values one named apart = tt
 apart_names schema home first (other ∷ columns) [] one named apart = tt
-apart_names schema home first (other ∷ columns) (value ∷ values) one named apart =
-    (
-      one_column schema home first.name other.name other.column first.column
+apart_names schema home first (other ∷ columns) (value ∷ values) one named apart = (
+  one_column schema home first.name other.name other.column first.column
       (column_slot_named schema home first.name first.column first.shape one.slot).number
       (column_slot_named schema home other.name other.column other.shape named.0.slot).number
       ∙ apart.0,
-      apart_names schema home first columns values one named.1 apart.1,
-    )
+  apart_names schema home first columns values one named.1 apart.1,
+)
 
 -- each member has another name
 pub members_once : (schema : SchemaDef) (home : TableDef) (columns : List Named) (values : List Value) → AllByRecursion (IsNamed schema home) columns

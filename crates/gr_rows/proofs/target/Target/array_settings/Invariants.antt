@@ -15,8 +15,8 @@ invariant-loop-named l = record {
   can_next : goal.iterator-loop-named.can_next l.named-iterator;
   finite : goal.iterator-loop-named.is_finite l.named-iterator;
   set :
-    AreSet l.self.schema.now l.self.home.now l.row (settings_of l.self.schema.now l.self.home.now l.row (column_members l.columns l.fn.values.items))
-    l.settings.items (column_members (iter_rest (zip_first l.named-iterator)) (into_iter_items (zip_second l.named-iterator)));
+      AreSet l.self.schema.now l.self.home.now l.row (settings_of l.self.schema.now l.self.home.now l.row (column_members l.columns l.fn.values.items))
+      l.settings.items (column_members (iter_rest (zip_first l.named-iterator)) (into_iter_items (zip_second l.named-iterator)));
   lengths : into_iter_len (zip_second l.named-iterator) ≡ length (into_iter_items (zip_second l.named-iterator));
   named : AllByRecursion (IsNamed l.self.schema.now l.self.home.now) (iter_rest (zip_first l.named-iterator));
   each : AllByRecursion (IsSetting l.self.schema.now l.self.table) l.settings.items;

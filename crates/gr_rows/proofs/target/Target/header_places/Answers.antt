@@ -19,8 +19,8 @@ loop-element-init c =
       can_next = tt;
       finite = tt;
       taken =
-        ap (λ before. names_after schema home before (header_names (items_view c.args.header.items))) (sym c.new-places.ensures.exact)
-        ∙ ap (λ values. names_after schema home (names_in c.new-places.result) (header_names (items_view values))) (sym gives);
+          ap (λ before. names_after schema home before (header_names (items_view c.args.header.items))) (sym c.new-places.ensures.exact)
+          ∙ ap (λ values. names_after schema home (names_in c.new-places.result) (header_names (items_view values))) (sym gives);
       sound = c.new-places.ensures.sound schema home;
     }
 

@@ -10,7 +10,7 @@ invariant-loop-element l = record {
   can_next : goal.iterator-loop-element.can_next l.element-iterator;
   finite : goal.iterator-loop-element.is_finite l.element-iterator;
   taken :
-    names_of l.self.schema.now l.self.home.now (header_names (items_view l.fn.header.items))
-    ≡ names_after l.self.schema.now l.self.home.now (names_in l.places) (header_names (items_view (into_iter_items l.element-iterator)));
+      names_of l.self.schema.now l.self.home.now (header_names (items_view l.fn.header.items))
+      ≡ names_after l.self.schema.now l.self.home.now (names_in l.places) (header_names (items_view (into_iter_items l.element-iterator)));
   sound : ArePlaces l.self.schema.now l.self.home.now l.places;
 }

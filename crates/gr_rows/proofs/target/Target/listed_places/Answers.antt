@@ -60,10 +60,10 @@ loop-name-preserved c =
       can_next = tt;
       finite = tt;
       taken =
-        c.loop-name.invariant.taken
-        ∙ listed_first schema home before parts n c.in-Some.name.now turn.0 turn.1
-        ∙ ap (result_then (λ now. names_after schema home now (given (map trimmed (drop (n + 1) parts))))) found
-        ∙ ap (λ k. names_after schema home made (given (map trimmed (drop k parts)))) (sym (length_push c.loop-name.yielded c.in-Some.name));
+          c.loop-name.invariant.taken
+          ∙ listed_first schema home before parts n c.in-Some.name.now turn.0 turn.1
+          ∙ ap (result_then (λ now. names_after schema home now (given (map trimmed (drop (n + 1) parts))))) found
+          ∙ ap (λ k. names_after schema home made (given (map trimmed (drop k parts)))) (sym (length_push c.loop-name.yielded c.in-Some.name));
       sound = c.in_ok-places.ensures.sound;
     }
 

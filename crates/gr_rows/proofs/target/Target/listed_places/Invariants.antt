@@ -9,8 +9,8 @@ invariant-loop-name l = record {
   can_next : goal.iterator-loop-name.can_next l.name-iterator;
   finite : goal.iterator-loop-name.is_finite l.name-iterator;
   taken :
-    names_of l.self.schema.now l.self.home.now (map Some (listed_names l.columns))
-    ≡ names_after l.self.schema.now l.self.home.now (names_in l.places)
+      names_of l.self.schema.now l.self.home.now (map Some (listed_names l.columns))
+      ≡ names_after l.self.schema.now l.self.home.now (names_in l.places)
       (map Some (filter (λ name. not (length name == 0)) (map trimmed (drop (length l.yielded) (slice_split is_comma l.columns)))));
   sound : ArePlaces l.self.schema.now l.self.home.now l.places;
 }

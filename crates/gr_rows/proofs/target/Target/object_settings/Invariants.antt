@@ -10,7 +10,7 @@ invariant-loop-name l = record {
   can_next : goal.iterator-loop-name.can_next l.name-iterator;
   finite : goal.iterator-loop-name.is_finite l.name-iterator;
   set :
-    AreSet l.self.schema.now l.self.home.now l.row (settings_of l.self.schema.now l.self.home.now l.row (members_at l.fn.members.entries))
-    l.settings.items (members_at l.name-iterator);
+      AreSet l.self.schema.now l.self.home.now l.row (settings_of l.self.schema.now l.self.home.now l.row (members_at l.fn.members.entries))
+      l.settings.items (members_at l.name-iterator);
   each : AllByRecursion (IsSetting l.self.schema.now l.self.table) l.settings.items;
 }

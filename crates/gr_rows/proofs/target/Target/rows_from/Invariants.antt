@@ -15,8 +15,8 @@ invariant-loop-value l = record {
   counted : l.row + into_iter_len l.value-iterator ≡ into_iter_len l.initial.value-iterator;
   lengths : into_iter_len l.value-iterator ≡ length (into_iter_items l.value-iterator);
   taken :
-    AreTaken l.self.schema.now l.self.home.now (option_map names_in (option_copied l.places)) l.row l.puts.items
-    (rows_from l.self.schema.now l.self.home.now (option_map names_in (option_copied l.places)) 1 (items_view l.fn.values.items))
-    (into_iter_items l.value-iterator);
+      AreTaken l.self.schema.now l.self.home.now (option_map names_in (option_copied l.places)) l.row l.puts.items
+      (rows_from l.self.schema.now l.self.home.now (option_map names_in (option_copied l.places)) 1 (items_view l.fn.values.items))
+      (into_iter_items l.value-iterator);
   fit : AllByRecursion (λ put. IsPut l.self.schema.now l.self.table put.key put.settings) l.puts.items;
 }
