@@ -79,6 +79,13 @@ pub(crate) fn cursor_over<'a>(least: u64, bytes: &'a [u8], run: &Run) -> Cursor<
 }
 
 impl Chunk {
+    /// A law: the postings of a chunk are in order.
+    pub fn is_in_order(&self)
+        ensures { IsInOrder self.now }
+    {
+        let _ = &self.least;
+    }
+
     /// The postings of a term that are to be walked, in order. The cost grows with the logarithm of the number of terms.
     pub fn cursor(&self, term: RecordId) -> Cursor<'_>
         ensures exact { result ≡ filter (is_of_term term) self.now }
