@@ -1,6 +1,7 @@
 pub mod ChangeLemmas
 pub mod KeysLemmas
 pub mod TablesLemmas
+pub mod TakenLemmas
 pub mod WalkLemmas
 pub mod SetLemmas
 pub mod FitLemmas

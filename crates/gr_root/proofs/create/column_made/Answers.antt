@@ -1,4 +1,5 @@
 use Rattle.std.proofs.Common.{◌≡◌, ◌∙◌, List, Option, ap, map, subst, sym}
+use Rattle.std.proofs.lemmas.Result.{err_from_is_err_and}
 use Rattle.std.specs.Prelude.{IfSome}
 use Rattle.gr_db.specs.Changed.{place_of}
 use Rattle.gr_db.specs.declared.want.Added.{Added}
@@ -59,3 +60,13 @@ returns-in-Err c =
     let are = c.as_slice.ensures.value
     ∙ wants-are c.args.schema.now c.in_ok-grown.grown c.args.tables.now c.in_ok-working.working c.args.table c.args.def (column_no c.column_count.result) c.in_ok-wants.wants.items is c.column_count.ensures c.in_ok-wants.ensures.exact in
     made-ended c.args.limits c.args.schema.now c.in_ok-grown.grown c.args.tables.now c.in_ok-working.working c.args.table c.args.def c.as_slice.result.now c.in-Err.failure is are c.in-Err.ensures.ended
+
+pub returns-in_err-wants : goal.returns-in_err-wants
+returns-in_err-wants c =
+    let p = err_from_is_err_and c.from_residual-in_err-wants.result c.from_residual-in_err-wants.ensures.1 in
+    rw (p.1, p.2) tt
+
+pub returns-in_err-places_of-in-Ok : goal.returns-in_err-places_of-in-Ok
+returns-in_err-places_of-in-Ok c =
+    let p = err_from_is_err_and c.from_residual-in_err-places_of-in-Ok.result c.from_residual-in_err-places_of-in-Ok.ensures.1 in
+    rw (p.1, p.2) tt
