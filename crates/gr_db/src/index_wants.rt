@@ -33,7 +33,15 @@ pub fn new_index_wants<R: Rows>(
             sources,
             ..
         } => {
-            push_table(alloc, &mut wants, schema, rows, index, *target, sources.as_slice())?;
+            push_table(
+                alloc,
+                &mut wants,
+                schema,
+                rows,
+                index,
+                *target,
+                sources.as_slice(),
+            )?;
             Ok(wants)
         }
         _ => Ok(wants),

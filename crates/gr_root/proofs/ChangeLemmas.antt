@@ -89,7 +89,7 @@ pub made-deleted : (limits : Limits) (schema : SchemaDef) (old new : List TableO
 made-deleted limits schema old new table by id made which at formed within same_schema same_tables places = record {
   faultless = ap missing_fault which;
   is = ap (λ (s : SchemaDef). db_of s made.tables) same_schema ∙ ap (db_of schema) same_tables ∙ changed-db schema old new table (without id.0) at
-    ∙ ap (λ (o : Option RecordId). option_map_or (λ i. changed_table table (without i.0) (db_of schema old)) o (db_of schema old)) (sym which);
+      ∙ ap (λ (o : Option RecordId). option_map_or (λ i. changed_table table (without i.0) (db_of schema old)) o (db_of schema old)) (sym which);
   touched = places ∙ ap (λ (o : Option RecordId). option_to_list (option_map (λ i. let place : Place = (table, i) in place) o)) (sym which);
   formed = subst (λ (s : SchemaDef). AreFormed s made.tables) (sym same_schema) (subst (AreFormed schema) (sym same_tables) (changed-formed schema old new table (without id.0) at formed));
   within = subst (AreWithin limits.records) (sym same_tables) (changed-within limits.records old new table (without id.0) (length-without id.0) at within);

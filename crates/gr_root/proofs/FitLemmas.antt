@@ -41,8 +41,8 @@ all-placed : (P : Setting → Type 0) (one : Setting) (others : List Setting) �
 all-placed P one [] here all = (here, tt)
 all-placed P one (other ∷ others) here all =
     elim (nat_lt one.0.0 other.0.0) as (λ b. AllByRecursion P (cond b (one ∷ other ∷ others) (other ∷ placed one others))) [
-      true ↦ (here, all)
-    | false ↦ (all.0, all-placed P one others here all.1)
+      | true ↦ (here, all)
+      | false ↦ (all.0, all-placed P one others here all.1)
     ]
 
 -- what holds of each setting holds of each by column
@@ -102,9 +102,10 @@ setting-fits schema table setting fits = column-wants schema setting.1 (column_a
 
 -- the records that a valid put wants
 pub record-fits : (schema : SchemaDef) (table : TableNo) (key : Option Key) (settings : List Setting) → IsPut schema table key settings → AllByRecursion (IsWantFor schema) (record_wants schema table key settings)
-record-fits schema table key settings put =
-    (subst (λ (o : Option TableDef). MatchOption o ⊥ (λ home. IsKeyFor home key)) (sym put.there.there) put.keyed,
-    all-flat_map (IsWantFor schema) (IsSetting schema table) (reference_wants schema table) (setting-fits schema table) (by_column settings) (all-by_column (IsSetting schema table) settings put.settings_fit))
+record-fits schema table key settings put = (
+  subst (λ (o : Option TableDef). MatchOption o ⊥ (λ home. IsKeyFor home key)) (sym put.there.there) put.keyed,
+  all-flat_map (IsWantFor schema) (IsSetting schema table) (reference_wants schema table) (setting-fits schema table) (by_column settings) (all-by_column (IsSetting schema table) settings put.settings_fit),
+)
 
 -- Texts
 
@@ -159,6 +160,6 @@ added-readable schema db (want ∷ wants) all =
     let more = added-readable schema (added db want) wants all.1 in
     let here = want-readable schema want all.0 in
     elim (is_there db want) as (λ b. AllByRecursion IsReadableNew (cond b (all_added db wants) (record { want = want; id = record_id (given_in db want.table + 1) } ∷ all_added (added db want) wants))) [
-      true ↦ rest
-    | false ↦ (here, more)
+      | true ↦ rest
+      | false ↦ (here, more)
     ]

@@ -103,9 +103,9 @@ pub added-alike : (one other : Db) (want : Want) → AreAlike one other → AreA
 added-alike one other want alike = record {
   schema = alike.schema;
   keys =
-    keys-changed one.tables want.table.0 (with_record (shapes_at one.schema want.table) want.key) (λ ks. ks ++ Some want.key ∷ []) (keys-added (shapes_at one.schema want.table) want.key)
-    ∙ ap (changed_at want.table.0 (λ ks. ks ++ Some want.key ∷ [])) alike.keys
-    ∙ sym (keys-changed other.tables want.table.0 (with_record (shapes_at other.schema want.table) want.key) (λ ks. ks ++ Some want.key ∷ []) (keys-added (shapes_at other.schema want.table) want.key));
+      keys-changed one.tables want.table.0 (with_record (shapes_at one.schema want.table) want.key) (λ ks. ks ++ Some want.key ∷ []) (keys-added (shapes_at one.schema want.table) want.key)
+      ∙ ap (changed_at want.table.0 (λ ks. ks ++ Some want.key ∷ [])) alike.keys
+      ∙ sym (keys-changed other.tables want.table.0 (with_record (shapes_at other.schema want.table) want.key) (λ ks. ks ++ Some want.key ∷ []) (keys-added (shapes_at other.schema want.table) want.key));
 }
 
 -- the same table is first full in both

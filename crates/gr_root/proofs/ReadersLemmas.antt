@@ -140,9 +140,9 @@ numbers-append table [] more = refl
 numbers-append table (place ∷ some) more =
     let rest = numbers-append table some more in
     elim (place.0.0 == table.0) as (λ b. map (λ (p : Place). p.1.0) (cond b (place ∷ filter (λ (p : Place). p.0.0 == table.0) (some ++ more)) (filter (λ (p : Place). p.0.0 == table.0) (some ++ more)))
-        ≡ map (λ (p : Place). p.1.0) (cond b (place ∷ filter (λ (p : Place). p.0.0 == table.0) some) (filter (λ (p : Place). p.0.0 == table.0) some)) ++ numbers_in table more) [
-      true ↦ ap (λ ns. place.1.0 ∷ ns) rest
-    | false ↦ rest
+    ≡ map (λ (p : Place). p.1.0) (cond b (place ∷ filter (λ (p : Place). p.0.0 == table.0) some) (filter (λ (p : Place). p.0.0 == table.0) some)) ++ numbers_in table more) [
+      | true ↦ ap (λ ns. place.1.0 ∷ ns) rest
+      | false ↦ rest
     ]
 
 -- one more place of the table

@@ -72,10 +72,10 @@ pub set-fits : (db : Db) (to : Option TableNo) (schema : SchemaDef) (table : Tab
     → MatchOption (option_flatten (slice_get shapes setting.0.0)) ⊥ (λ shape. IsCellOf shape cell)
 set-fits db to schema table setting shapes cell same is fits =
     let shape : option_flatten (slice_get shapes setting.0.0) ≡ option_and_then (λ (def : ColumnDef). role_shape schema def.role) (column_at schema table setting.0) =
-        ap (λ (ss : List (Option Shape)). option_flatten (slice_get ss setting.0.0)) same ∙ shape-is schema table setting.0 in
+    ap (λ (ss : List (Option Shape)). option_flatten (slice_get ss setting.0.0)) same ∙ shape-is schema table setting.0 in
     let kept_fits = fits-by db to setting.1 (option_and_then (λ (def : ColumnDef). role_shape schema def.role) (column_at schema table setting.0)) fits in
     subst (λ (o : Option Shape). MatchOption o ⊥ (λ s. IsCellOf s cell)) (sym shape)
-        (subst (λ (k : Cell). MatchOption (option_and_then (λ (def : ColumnDef). role_shape schema def.role) (column_at schema table setting.0)) ⊥ (λ s. IsCellOf s k)) (sym is) kept_fits)
+    (subst (λ (k : Cell). MatchOption (option_and_then (λ (def : ColumnDef). role_shape schema def.role) (column_at schema table setting.0)) ⊥ (λ s. IsCellOf s k)) (sym is) kept_fits)
 
 -- A record that is not there
 
@@ -99,7 +99,7 @@ pub set-nothing : (schema : SchemaDef) (old : List TableOf) (table : TableNo) (i
 set-nothing schema old table id setting none formed =
     let cell = kept (db_of schema old) (column_target schema table setting.0) setting.1 in
     let same : changed_at table.0 (changed_in id.0 (with_cell setting.0 cell)) (records_in old) ≡ records_in old =
-        same-at (changed_in id.0 (with_cell setting.0 cell)) table.0 (records_in old) (none-in (with_cell setting.0 cell) id.0 (records_of (records_in old) table) none) in
+    same-at (changed_in id.0 (with_cell setting.0 cell)) table.0 (records_in old) (none-in (with_cell setting.0 cell) id.0 (records_of (records_in old) table) none) in
     record {
       is = ap (λ (rs : List Records). let db : Db = record { schema = schema; tables = rs } in db) (sym same);
       formed = formed;

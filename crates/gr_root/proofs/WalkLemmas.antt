@@ -84,9 +84,9 @@ step-found limit schema old new want before after id news there others found for
     let is : is_there (db_of schema old) want ≡ true = there-is schema old want before there ∙ ap is_some found.there in
     record {
       full = λ rest. ap (λ b. cond b (first_full limit (db_of schema old) rest) (cond (given_in (db_of schema old) want.table == limit) (Some want.table) (first_full limit (added (db_of schema old) want) rest))) is
-        ∙ ap (λ ts. first_full limit (db_of schema ts) rest) (sym same);
+          ∙ ap (λ ts. first_full limit (db_of schema ts) rest) (sym same);
       added = λ rest. ap (λ b. news ++ cond b (all_added (db_of schema old) rest) (record { want = want; id = record_id (given_in (db_of schema old) want.table + 1) } ∷ all_added (added (db_of schema old) want) rest)) is
-        ∙ ap (λ ts. news ++ all_added (db_of schema ts) rest) (sym same);
+          ∙ ap (λ ts. news ++ all_added (db_of schema ts) rest) (sym same);
       wanted = ap (λ b. cond b (db_of schema old) (added (db_of schema old) want)) is ∙ ap (db_of schema) (sym same);
       formed = subst (AreFormed schema) (sym same) formed;
       within = subst (AreWithin limit) (sym same) within;
@@ -106,9 +106,9 @@ added-set schema old want home before after there formed found last =
     let same : at.table ≡ before = let both : Some at.table ≡ Some before = sym at.there ∙ there in cc in
     let shapes : before.shapes ≡ shapes_at schema want.table = ap (λ (t : TableOf). t.shapes) (sym same) ∙ at.shapes in
     let records : after.records ≡ with_record (shapes_at schema want.table) want.key before.records =
-        ap (λ (t : TableOf). t.records) last ∙ ap (λ ss. with_record ss want.key before.records) shapes in
+    ap (λ (t : TableOf). t.records) last ∙ ap (λ ss. with_record ss want.key before.records) shapes in
     ap (λ (rs : List Records). let db : Db = record { schema = schema; tables = rs } in db)
-        (sym (records-set old want.table.0 before after (with_record (shapes_at schema want.table) want.key) there records))
+    (sym (records-set old want.table.0 before after (with_record (shapes_at schema want.table) want.key) there records))
 
 home-found : (schema : SchemaDef) (want : Want) (o : Option TableDef) → table_at schema want.table ≡ o → MatchOption o ⊥ (λ home. IsKeyFor home want.key) → (home : TableDef) × (table_at schema want.table ≡ Some home)
 home-found schema want None is fits = absurd fits
@@ -129,19 +129,19 @@ step-added limit schema old new want before after id news there others done fits
     let room : (given_in (db_of schema old) want.table == limit) ≡ false = ap (λ n. n == limit) given ∙ room-by (length before.records) limit done.room in
     let next : id ≡ record_id (given_in (db_of schema old) want.table + 1) = done.next ∙ ap (λ n. record_id (n + 1)) (sym given) in
     let longer : length after.records ≤ limit =
-        let long : length after.records ≡ length before.records + 1 = ap (λ (t : TableOf). length t.records) done.last ∙ length-append before.records (_ ∷ []) in
-        let below : length before.records < limit = done.room in omega arith in
+    let long : length after.records ≡ length before.records + 1 = ap (λ (t : TableOf). length t.records) done.last ∙ length-append before.records (_ ∷ []) in
+    let below : length before.records < limit = done.room in omega arith in
     let shape : form_of after ≡ form_of before = ap form_of done.last in
     record {
       full = λ rest. ap (λ b. cond b (first_full limit (db_of schema old) rest) (cond (given_in (db_of schema old) want.table == limit) (Some want.table) (first_full limit (added (db_of schema old) want) rest))) is
-        ∙ ap (λ b. cond b (Some want.table) (first_full limit (added (db_of schema old) want) rest)) room
-        ∙ ap (λ db. first_full limit db rest) set;
+          ∙ ap (λ b. cond b (Some want.table) (first_full limit (added (db_of schema old) want) rest)) room
+          ∙ ap (λ db. first_full limit db rest) set;
       added = λ rest.
-        let one : Added = record { want = want; id = id } in
-        ap (λ b. news ++ cond b (all_added (db_of schema old) rest) (record { want = want; id = record_id (given_in (db_of schema old) want.table + 1) } ∷ all_added (added (db_of schema old) want) rest)) is
-        ∙ ap (λ (i : RecordId). let one : Added = record { want = want; id = i } in news ++ (one ∷ all_added (added (db_of schema old) want) rest)) (sym next)
-        ∙ ap (λ db. news ++ (one ∷ all_added db rest)) set
-        ∙ sym (append_assoc news (one ∷ []) (all_added (db_of schema new) rest));
+          let one : Added = record { want = want; id = id } in
+          ap (λ b. news ++ cond b (all_added (db_of schema old) rest) (record { want = want; id = record_id (given_in (db_of schema old) want.table + 1) } ∷ all_added (added (db_of schema old) want) rest)) is
+          ∙ ap (λ (i : RecordId). let one : Added = record { want = want; id = i } in news ++ (one ∷ all_added (added (db_of schema old) want) rest)) (sym next)
+          ∙ ap (λ db. news ++ (one ∷ all_added db rest)) set
+          ∙ sym (append_assoc news (one ∷ []) (all_added (db_of schema new) rest));
       wanted = ap (λ b. cond b (db_of schema old) (added (db_of schema old) want)) is ∙ set;
       formed = subst (AreFormed schema) (sym others) (forms-set old want.table.0 before after there shape ∙ formed);
       within = subst (AreWithin limit) (sym others) (within-set limit old want.table.0 after longer within);
@@ -156,7 +156,7 @@ step-full limit schema old want before after fault there done told =
     let no_room : (given_in (db_of schema old) want.table == limit) ≡ true = ap (λ n. n == limit) given ∙ full-by (length before.records) limit done.full in
     record {
       full = λ rest. ap (λ b. cond b (first_full limit (db_of schema old) rest) (cond (given_in (db_of schema old) want.table == limit) (Some want.table) (first_full limit (added (db_of schema old) want) rest))) is
-        ∙ ap (λ b. cond b (Some want.table) (first_full limit (added (db_of schema old) want) rest)) no_room;
+          ∙ ap (λ b. cond b (Some want.table) (first_full limit (added (db_of schema old) want) rest)) no_room;
       told = told;
     }
 

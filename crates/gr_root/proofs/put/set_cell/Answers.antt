@@ -32,7 +32,7 @@ returns c =
     let db = db_of c.args.schema.now c.args.tables.now in
     on_ok c.put.result
     (λ put. set-one c.args.schema.now c.args.tables.now c.take.new.self c.put.new.self c.args.table c.args.id c.args.setting.now c.in_ok-found.found _ c.in_ok-cell.cell
-      c.in_ok-found.ensures put c.in_ok-set.ensures
-      (c.in_ok-cell.ensures db refl ∙ ap (λ to. kept db to c.args.setting.now.1) c.column_target.ensures)
-      c.requires.formed)
+    c.in_ok-found.ensures put c.in_ok-set.ensures
+    (c.in_ok-cell.ensures db refl ∙ ap (λ to. kept db to c.args.setting.now.1) c.column_target.ensures)
+    c.requires.formed)
     c.put.ensures
