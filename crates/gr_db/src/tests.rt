@@ -1,4 +1,3 @@
-// A journal that grows, what puts want, and values as they are kept.
+// A journal that grows, and values as they are kept.
 mod journal;
 mod keeping;
-mod wants;
