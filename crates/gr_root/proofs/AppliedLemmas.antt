@@ -21,19 +21,22 @@ use Rattle.gr_db.specs.Apply.{apply, change_fault, counted, counts, fault_of, jo
 use Rattle.gr_db.specs.Changed.{Place, touched}
 use Rattle.gr_db.specs.Db.{Db, empty}
 use Rattle.gr_db.specs.Entry.{IsValid}
+use Rattle.gr_db.specs.Fitting.{IsFitting}
 use Rattle.gr_db.specs.declared.entry.Change.{Change}
 use Rattle.gr_db.specs.declared.entry.Change.TheVariants.{CreateTable, CreateColumn, Put, Delete, Merge}
 use Rattle.gr_db.specs.declared.entry.Entry.{Entry}
 use Rattle.gr_expr.specs.Tables.{Records}
 use Rattle.gr_root.specs.Inside.Make.{IsMade, IsUnmade, Makes}
-use Rattle.gr_root.specs.Inside.Sound.{AreFormed, AreTouched, AreWithin, IsSound, records_in}
+use Rattle.gr_root.specs.Inside.Sound.{AreFormed, AreGoodIn, AreTouched, AreWithin, IsGoodDb, IsSound, forms_in, records_in}
 use Rattle.gr_root.specs.Inside.Walk.{db_of}
 use Rattle.gr_root.specs.Root.{Applies, IsApplied, IsRefused, Rooted, extended, merges_in}
 use Rattle.gr_root.specs.declared.make.Made.{Made}
 use Rattle.gr_root.specs.declared.root.Root.TheInside.{Inside}
 use Rattle.gr_root.proofs.AppliedFew.{few-columns, few-tables}
+use Rattle.gr_root.proofs.GoodLemmas.{change-good, good-fitting}
 use Rattle.gr_db.proofs.Grows.{slice_get-left}
 use Rattle.gr_schema.specs.Schema.{SchemaDef, column_count}
+use Rattle.gr_schema.specs.Sound.{IsSound as IsSoundSchema}
 use Rattle.gr_table.specs.Table.{TableOf}
 
 -- Lists with one more
@@ -172,10 +175,10 @@ room-left : (n limit : ℕ) → n ≤ limit → (n == limit) ≡ false → n + 1
 room-left n limit within apart = grind (arith, nat_tests, within, apart)
 
 -- a state with one entry more, whose change was made where there was room, is sound
-pub sound-pushed : (old new : Inside) (entry : Entry) (made : Made) → IsSound old → IsValid (replay old.journal).schema entry.change → IsMade old.limits old.schema old.tables entry.change made
+pub sound-pushed : (old new : Inside) (entry : Entry) (made : Made) → IsSound old → IsSoundSchema old.schema → IsSoundSchema made.schema → IsValid (replay old.journal).schema entry.change → IsMade old.limits old.schema old.tables entry.change made
     → (counted old.journal == old.limits.journal) ≡ false → new.limits ≡ old.limits → new.journal ≡ old.journal ++ entry ∷ [] → new.merges ≡ old.merges
     → new.schema ≡ made.schema → new.tables ≡ made.tables → new.touched ≡ old.touched ++ made.touched ∷ [] → IsSound new
-sound-pushed old new entry made sound valid is room limits journal merges schema tables places =
+sound-pushed old new entry made sound known grown valid is room limits journal merges schema tables places =
     let change = entry.change in
     let counting : counts change ≡ true = valid-counts (replay old.journal).schema change valid in
     let before : db_of old.schema old.tables ≡ replay old.journal = state-db old sound in
@@ -184,6 +187,10 @@ sound-pushed old new entry made sound valid is room limits journal merges schema
     is.is ∙ ap (λ (db : Db). apply db change) before ∙ sym (replay-pushed old.journal entry) ∙ ap (λ (entries : List Entry). replay entries) (sym journal) in
     let more : counted new.journal ≡ counted old.journal + 1 = ap (λ (entries : List Entry). counted entries) journal ∙ counted-pushed old.journal entry counting in
     let below : counted old.journal + 1 ≤ old.limits.journal = room-left (counted old.journal) old.limits.journal sound.within room in
+    let valid_now : IsValid old.schema change = subst (λ (db : Db). IsValid db.schema change) (sym before) valid in
+    let good : IsGoodDb (db_of made.schema made.tables) =
+        subst IsGoodDb (sym is.is)
+            (change-good old.limits (db_of old.schema old.tables) change known (subst IsSoundSchema (ap (λ (db : Db). db.schema) is.is) grown) sound.good valid_now is.faultless) in
     let places_now : made.touched ≡ touched (replay old.journal) change = is.touched ∙ ap (λ (db : Db). touched db change) before in
     record {
       limits = subst IsInRange (sym limits) sound.limits;
@@ -196,6 +203,7 @@ sound-pushed old new entry made sound valid is room limits journal merges schema
       tables = ap records_in tables ∙ ap (λ (db : Db). db.tables) whole;
       formed = subst (λ (s : SchemaDef). AreFormed s new.tables) (sym schema) (subst (AreFormed made.schema) (sym tables) is.formed);
       given = subst (λ (l : Limits). AreWithin l.records new.tables) (sym limits) (subst (AreWithin old.limits.records) (sym tables) is.within);
+      good = subst (λ (s : SchemaDef). AreGoodIn (forms_in s) (records_in new.tables)) (sym schema) (subst (λ (ts : List TableOf). AreGoodIn (forms_in made.schema) (records_in ts)) (sym tables) good);
       touched = subst (λ (ps : List (List Place)). AreTouched new.journal ps) (sym places)
           (subst (λ (entries : List Entry). AreTouched entries (old.touched ++ made.touched ∷ [])) (sym journal) (touched-pushed old.journal old.touched entry made.touched sound.touched places_now));
     }
@@ -245,3 +253,8 @@ is-full root len sound long full =
 
 pub has-room : (root : Inside) (len : ℕ) → IsSound root → len ≡ length root.journal → len - root.merges ≢ root.limits.journal → (counted root.journal == root.limits.journal) ≡ false
 has-room root len sound long apart = not-same (counted root.journal) root.limits.journal (λ same. apart (omega (arith, state-counted root sound, long, same)))
+
+-- its records fit its schema
+pub state-fitting : (root : Inside) (now : Rooted) → IsSound root → seen root ≡ now → IsSoundSchema root.schema → IsFitting (replay now.journal)
+state-fitting root now sound view known =
+    subst (λ (r : Rooted). IsFitting (replay r.journal)) view (subst IsFitting (state-db root sound) (good-fitting (db_of root.schema root.tables) known sound.good))

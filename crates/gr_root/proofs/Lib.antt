@@ -13,3 +13,4 @@ pub mod ReadableLemmas
 pub mod ReadersLemmas
 pub mod AppliedFew
 pub mod AppliedLemmas
+pub mod GoodLemmas

@@ -7,6 +7,7 @@ ghost use Rattle.gr_db.specs.Accepted.{IsAccepted};
 ghost use Rattle.gr_db.specs.Apply.{replay};
 ghost use Rattle.gr_expr.specs.Tables.{cell_at, records_of};
 ghost use Rattle.gr_db.specs.Entry.{IsValid};
+ghost use Rattle.gr_db.specs.Fitting.{IsFitting};
 ghost use Rattle.gr_root.specs.Root.{Applies, HoldsText, merges_in};
 ghost use Rattle.gr_schema.specs.Paths.{key_type};
 ghost use Rattle.gr_table.specs.Masks.{AreWithPrefix};
@@ -85,9 +86,12 @@ impl Root {
 
     /// Its schema, lent.
     pub fn schema(&self) -> &Schema
-        ensures { result.now ≡ (replay self.now.journal).schema }
+        ensures exact { result.now ≡ (replay self.now.journal).schema }
+        ensures fitting { IsFitting (replay self.now.journal) }
     {
-        self.schema.get()
+        let schema = self.schema.get();
+        tell_sound(schema);
+        schema
     }
 
     /// How many entries of its journal are merges.
@@ -115,6 +119,7 @@ impl Root {
             Ok(made) => made,
             Err(failure) => return Err(failure),
         };
+        tell_sound(made.schema.get());
         if self.journal.len() - self.merges == self.limits.journal {
             return Err(Failure::Refused(journal_full(alloc)?));
         }

@@ -7,6 +7,7 @@ use Rattle.gr_db.specs.Entry.{IsValid}
 use Rattle.gr_db.specs.declared.entry.Entry.{Entry}
 use Rattle.gr_root.specs.Inside.Make.{IsMade, Makes}
 use Rattle.gr_root.specs.Root.{Rooted}
+use Rattle.gr_schema.specs.Sound.{IsSound as IsSoundSchema}
 use Rattle.gr_root.proofs.AppliedLemmas.{change-refused, entry-applied, has-room, is-full, journal-refused, sound-pushed, state-columns, state-counted, state-long, state-tables}
 use Rattle.gr_root.proofs.root.Root.applied.Goals as goal
 
@@ -48,7 +49,11 @@ invariant_of-result c =
     subst (λ (entry : Entry). IsMade root.limits root.schema root.tables entry.change c.in-Ok.made) c.deref.ensures c.in-Ok.ensures in
     let valid : IsValid (replay root.journal).schema (arc_value c.args.entry).change =
     subst (λ (r : Rooted). IsValid (replay r.journal).schema (arc_value c.args.entry).change) (sym c.self.view_is) c.requires.valid in
-    sound-pushed root _ (arc_value c.args.entry) c.in-Ok.made c.self.invariant valid made
+    sound-pushed root _ (arc_value c.args.entry) c.in-Ok.made c.self.invariant
+    (subst IsSoundSchema c.get.ensures c.tell_sound.ensures)
+    (subst IsSoundSchema c.get-2.ensures c.tell_sound-2.ensures)
+    valid
+    made
     (has-room root c.len.result c.self.invariant c.len.ensures c.if-len-self.false)
     refl
     c.in_ok-journal.ensures
