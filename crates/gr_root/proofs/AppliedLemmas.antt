@@ -189,8 +189,8 @@ sound-pushed old new entry made sound known grown valid is room limits journal m
     let below : counted old.journal + 1 ≤ old.limits.journal = room-left (counted old.journal) old.limits.journal sound.within room in
     let valid_now : IsValid old.schema change = subst (λ (db : Db). IsValid db.schema change) (sym before) valid in
     let good : IsGoodDb (db_of made.schema made.tables) =
-        subst IsGoodDb (sym is.is)
-            (change-good old.limits (db_of old.schema old.tables) change known (subst IsSoundSchema (ap (λ (db : Db). db.schema) is.is) grown) sound.good valid_now is.faultless) in
+    subst IsGoodDb (sym is.is)
+    (change-good old.limits (db_of old.schema old.tables) change known (subst IsSoundSchema (ap (λ (db : Db). db.schema) is.is) grown) sound.good valid_now is.faultless) in
     let places_now : made.touched ≡ touched (replay old.journal) change = is.touched ∙ ap (λ (db : Db). touched db change) before in
     record {
       limits = subst IsInRange (sym limits) sound.limits;

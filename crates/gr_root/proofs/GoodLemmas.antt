@@ -221,7 +221,7 @@ added-good db want sound good fits =
           cells = blank-cells (shapes_of db.schema home.0) (home-shapes db.schema want.table.0 home.0 sound home.1);
         } in
         good-push form records (Some (new_record (shapes_at db.schema want.table) want.key)) all
-            (subst (λ (ss : List (Option Shape)). IsOfForm form (new_record ss want.key)) (sym shapes) (subst (λ (f : Form). IsOfForm f (new_record (shapes_of db.schema home.0) want.key)) home.2 new))
+        (subst (λ (ss : List (Option Shape)). IsOfForm form (new_record ss want.key)) (sym shapes) (subst (λ (f : Form). IsOfForm f (new_record (shapes_of db.schema home.0) want.key)) home.2 new))
 
 wanted-good : (db : Db) (want : Want) → IsSound db.schema → IsGoodDb db → IsWantFor db.schema want → IsGoodDb (wanted db want)
 wanted-good db want sound good fits = elim (is_there db want) as (λ b. IsGoodDb (cond b db (added db want))) [
@@ -236,8 +236,8 @@ all-good : (schema : SchemaDef) (db : Db) (wants : List Want) → db.schema ≡ 
 all-good schema db [] same sound good all = good
 all-good schema db (want ∷ wants) same sound good all =
     all-good schema (wanted db want) wants (wanted-same db want ∙ same) sound
-        (wanted-good db want (subst IsSound (sym same) sound) good (subst (λ (s : SchemaDef). IsWantFor s want) (sym same) all.0))
-        all.1
+    (wanted-good db want (subst IsSound (sym same) sound) good (subst (λ (s : SchemaDef). IsWantFor s want) (sym same) all.0))
+    all.1
 
 -- Settings
 
@@ -253,8 +253,8 @@ setting-good table id db setting good fits =
         let home = form-at db.schema table.0 form is in
         let shapes : form.1 ≡ shapes_at db.schema table = ap (λ (f : Form). f.1) (sym home.2) ∙ ap (λ (o : Option TableDef). option_map_or (shapes_of db.schema) o []) (sym home.1) in
         good-in form (with_cell setting.0 cell) id.0 records
-            (λ found is. record { keyed = is.keyed; cells = set-cells form.1 found.cells setting.0.0 cell is.cells (set-fits db (column_target db.schema table setting.0) db.schema table setting form.1 cell shapes refl fits) })
-            all
+        (λ found is. record { keyed = is.keyed; cells = set-cells form.1 found.cells setting.0.0 cell is.cells (set-fits db (column_target db.schema table setting.0) db.schema table setting form.1 cell shapes refl fits) })
+        all
 
 settings-good : (table : TableNo) (id : RecordId) (db : Db) (settings : List Setting) → IsGoodDb db → AllByRecursion (IsSetting db.schema table) settings → IsGoodDb (fold (with_setting table id) db settings)
 settings-good table id db [] good all = good
@@ -332,8 +332,8 @@ role-same new old number home (Index target sources position section) grown is =
 form-same : (new old : SchemaDef) (n : ℕ) (def : TableDef) → Extends new old → IsSound old → slice_get old.tables n ≡ Some def → form_in new def ≡ form_in old def
 form-same new old n def grown sound there =
     ap (λ (shapes : List (Option Shape)). let form : Form = (def.key, shapes) in form)
-        (map-alike (λ (one : ColumnDef). role_shape new one.role) (λ one. role_shape old one.role) def.columns
-            (λ c one at. role-same new old (table_no n) def one.role grown ((sound.tables n def there).columns c one at).role))
+    (map-alike (λ (one : ColumnDef). role_shape new one.role) (λ one. role_shape old one.role) def.columns
+    (λ c one at. role-same new old (table_no n) def one.role grown ((sound.tables n def there).columns c one at).role))
 
 -- A new table
 
@@ -341,9 +341,9 @@ table-good : (db : Db) (def : TableDef) → length def.columns ≡ 0 → IsSound
 table-good db def none sound good =
     let new = with_table db.schema def in
     let forms : forms_in new ≡ forms_in db.schema ++ form_in new def ∷ [] =
-        append-map (form_in new) db.schema.tables (def ∷ [])
-        ∙ ap (λ (fs : List Form). fs ++ form_in new def ∷ [])
-            (map-alike (form_in new) (form_in db.schema) db.schema.tables (λ n one there. form-same new db.schema n one (extends-table db.schema def) sound there)) in
+    append-map (form_in new) db.schema.tables (def ∷ [])
+    ∙ ap (λ (fs : List Form). fs ++ form_in new def ∷ [])
+    (map-alike (form_in new) (form_in db.schema) db.schema.tables (λ n one there. form-same new db.schema n one (extends-table db.schema def) sound there)) in
     subst (λ (fs : List Form). AreGoodIn fs (db.tables ++ [] ∷ [])) (sym forms) (good-more (forms_in db.schema) db.tables (form_in new def) [] good tt)
 
 -- A new column
@@ -355,8 +355,8 @@ widened shape form = (form.0, form.1 ++ shape ∷ [])
 widen-records : (shape : Option Shape) (form : Form) (records : Records) → IfSome shape IsShape → AreGood form records → AreGood (widened shape form) (with_column_of (option_map default_of shape) records)
 widen-records shape form records is all =
     good-map form (widened shape form) (with_one_more (option_map default_of shape)) records
-        (λ found good. record { keyed = good.keyed; cells = more-cells form.1 found.cells shape (option_map default_of shape) good.cells (default-in shape is) })
-        all
+    (λ found good. record { keyed = good.keyed; cells = more-cells form.1 found.cells shape (option_map default_of shape) good.cells (default-in shape is) })
+    all
 
 widen-forms : (new old : SchemaDef) (column : ColumnDef) (k : ℕ) (tables : List TableDef) → ((n : ℕ) (def : TableDef) → slice_get tables n ≡ Some def → form_in new def ≡ form_in old def)
     → map (form_in new) (changed_at k (table_with column) tables) ≡ changed_at k (widened (role_shape new column.role)) (map (form_in old) tables)
@@ -364,8 +364,8 @@ widen-forms new old column k [] same = refl
 widen-forms new old column zero (def ∷ tables) same =
     let rest : map (form_in new) tables ≡ map (form_in old) tables = map-alike (form_in new) (form_in old) tables (λ n one there. same (suc n) one there) in
     let first : form_in new (table_with column def) ≡ widened (role_shape new column.role) (form_in old def) =
-        ap (λ (shapes : List (Option Shape)). let form : Form = (def.key, shapes) in form) (append-map (λ (one : ColumnDef). role_shape new one.role) def.columns (column ∷ []))
-        ∙ ap (widened (role_shape new column.role)) (same zero def refl) in
+    ap (λ (shapes : List (Option Shape)). let form : Form = (def.key, shapes) in form) (append-map (λ (one : ColumnDef). role_shape new one.role) def.columns (column ∷ []))
+    ∙ ap (widened (role_shape new column.role)) (same zero def refl) in
     ap (λ (f : Form). f ∷ map (form_in new) tables) first ∙ ap (λ (fs : List Form). widened (role_shape new column.role) (form_in old def) ∷ fs) rest
 widen-forms new old column (suc k) (def ∷ tables) same =
     ap (λ (f : Form). f ∷ map (form_in new) (changed_at k (table_with column) tables)) (same zero def refl)
@@ -376,8 +376,8 @@ blank-good db table column sound shaped good =
     let new = with_column db.schema table column in
     let shape = role_shape new column.role in
     subst (λ (fs : List Form). AreGoodIn fs (changed_at table.0 (with_column_of (option_map default_of shape)) db.tables))
-        (sym (widen-forms new db.schema column table.0 db.schema.tables (λ n one there. form-same new db.schema n one (extends-column db.schema table column) sound there)))
-        (good-both table.0 (widened shape) (with_column_of (option_map default_of shape)) (forms_in db.schema) db.tables (λ form records all. widen-records shape form records shaped all) good)
+    (sym (widen-forms new db.schema column table.0 db.schema.tables (λ n one there. form-same new db.schema n one (extends-column db.schema table column) sound there)))
+    (good-both table.0 (widened shape) (with_column_of (option_map default_of shape)) (forms_in db.schema) db.tables (λ form records all. widen-records shape form records shaped all) good)
 
 -- a new column has a sound role
 new-role : (schema : SchemaDef) (table : TableNo) (column : ColumnDef) → IsColumnFor schema table column → IsSound (with_column schema table column)
@@ -385,7 +385,7 @@ new-role : (schema : SchemaDef) (table : TableNo) (column : ColumnDef) → IsCol
 new-role schema table column wished sound =
     let home = column-home schema table column wished in
     let there : slice_get (changed_at table.0 (table_with column) schema.tables) table.0 ≡ Some (table_with column home.0) =
-        get-changed table.0 (table_with column) schema.tables ∙ ap (option_map (table_with column)) home.1 in
+    get-changed table.0 (table_with column) schema.tables ∙ ap (option_map (table_with column)) home.1 in
     (home.0, ((sound.tables table.0 (table_with column home.0) there).columns (length home.0.columns) column (get-end home.0.columns column)).role)
 
 -- an index column of a sound schema reads texts that are UTF-8
@@ -398,11 +398,11 @@ column-good : (db : Db) (table : TableNo) (column : ColumnDef) → IsSound db.sc
 column-good db table column sound grown wished good =
     let new = with_column db.schema table column in
     let shaped : IfSome (role_shape new column.role) IsShape =
-        subst (λ (o : Option Shape). IfSome o IsShape) (sym (role-shape-column db.schema table column column.role)) (column-shape db.schema table column wished grown) in
+    subst (λ (o : Option Shape). IfSome o IsShape) (sym (role-shape-column db.schema table column column.role)) (column-shape db.schema table column wished grown) in
     let blank_good = blank-good db table column sound shaped good in
     let index : TableNo × ColumnNo = (table, column_no (column_count db.schema table)) in
     all-good new (with_blank_column db table column) (column_wants db (with_blank_column db table column) table column) refl grown blank_good
-        (new-index-fits new (with_blank_column db table column).tables index column.role grown (column-readable db table column grown wished blank_good))
+    (new-index-fits new (with_blank_column db table column).tables index column.role grown (column-readable db table column grown wished blank_good))
 
 -- All changes
 
@@ -428,7 +428,7 @@ put-good db table key settings sound good valid =
     let set_same : set.schema ≡ db.schema = settings-same table id found settings ∙ found_same in
     let set_good = settings-good table id found settings found_good (subst (λ (s : SchemaDef). AllByRecursion (IsSetting s table) settings) (sym found_same) valid.settings_fit) in
     all-good db.schema set (token_wants db.schema table settings (all_added db records)) set_same sound set_good
-        (token-fits db.schema table settings (all_added db records) sound (settings-readable db.schema table settings valid.settings_fit) (added-readable db.schema db records fit))
+    (token-fits db.schema table settings (all_added db records) sound (settings-readable db.schema table settings valid.settings_fit) (added-readable db.schema db records fit))
 
 delete-good : (db : Db) (table : TableNo) (o : Option RecordId) → IsGoodDb db → IsGoodDb (option_map_or (λ id. changed_table table (without id.0) db) o db)
 delete-good db table None good = good
