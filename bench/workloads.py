@@ -79,6 +79,19 @@ def keys_in_one_load(size):
     return Case({"a.grn": text}, [DONE, loaded(size), shown(size, HEAD, first)])
 
 
+def five_columns(size):
+    """One load of records with a key, a reference, two numbers and a text of 40 bytes; how many there are, and one window."""
+    schema = "table_create G TABLE_HASH_KEY ShortText\ntable_create R TABLE_HASH_KEY ShortText\n" \
+        "column_create R g COLUMN_SCALAR G\ncolumn_create R a COLUMN_SCALAR Int32\n" \
+        "column_create R b COLUMN_SCALAR Int64\ncolumn_create R t COLUMN_SCALAR ShortText\n"
+    rows = ['{"_key":"r%d","g":"g%d","a":%d,"b":%d,"t":"%040d"}' % (i, i % 7, i * i % 1000, i * 1000003, i) for i in range(size)]
+    last = size - 1
+    window = "select R --output_columns _id,_key,g,a,b,t --offset -1\nselect R --limit 0 --output_columns _key\n"
+    head = '[["_id","UInt32"],["_key","ShortText"],["g","G"],["a","Int32"],["b","Int64"],["t","ShortText"]]'
+    row = '[%d,"r%d","g%d",%d,%d,"%040d"]' % (size, last, last % 7, last * last % 1000, last * 1000003, last)
+    return Case({"a.grn": schema + load("R", rows) + window}, [DONE] * 6 + [loaded(size), shown(size, head, [row]), shown(size, KEY_HEAD)])
+
+
 def loads_of_one_record(size):
     lines = ["load --table P --values '[{\"_key\":\"k%d\"}]'" % i for i in range(size)]
     text = "table_create P TABLE_HASH_KEY ShortText\n" + "\n".join(lines) + "\n"
@@ -207,8 +220,9 @@ WORKLOADS = [
     Workload("one table", "the program starts and makes one table", [1], [1], [], one_table),
     Workload("tables", "tables are made", [1000, 2000, 4000], [200], [], tables),
     Workload("refused lines", "each line is an unknown command", [10000, 100000, 1000000], [5000], [], refused_lines),
-    Workload("keys", "one load of keys, and a select", [1000, 2000, 4000], [300], [], keys_in_one_load),
-    Workload("small loads", "loads of one record each", [1000, 2000, 4000], [300], [], loads_of_one_record),
+    Workload("keys", "one load of keys, and a select", [1000, 10000, 100000], [300], [], keys_in_one_load),
+    Workload("small loads", "loads of one record each", [1000, 10000, 100000], [300], [], loads_of_one_record),
+    Workload("five columns", "one load of records with five members each", [1000, 10000, 100000], [300], KEYS + ["columns"], five_columns),
     Workload("records", "records with a reference, a number and an indexed text", [1000, 10000, 100000], [500], RECORDS, grouped_records),
     Workload("one-word records", "five searches a record, each finds one", [400, 4000, 40000], [200], SEARCHES, one_word_records),
     Workload("words", "texts of 60 words under a word index; phrases", [500, 5000, 50000], [200], SEARCHES, long_texts("TokenDelimit")),

@@ -1,3 +1,1 @@
 pub mod Applying
-pub mod Sound
-pub mod Texts

@@ -1,18 +1,10 @@
--- What applying and publishing an entry does.
-use Rattle.std.specs.Prelude.{ℕ, ◌≡◌, Result, Ok, Err, length}
-use Rattle.gr_base.specs.declared.failure.Failure.{Failure}
-use Rattle.gr_base.specs.declared.failure.Failure.TheVariants.{Refused as RootRefused, NoMemory as RootNoMemory}
+-- What publishing an entry does.
+use Rattle.std.specs.Prelude.{ℕ, ◌≡◌, length}
 use Rattle.gr_base.specs.declared.fault.Fault.{Fault}
-use Rattle.gr_model.specs.declared.entry.Entry.{Entry}
-use Rattle.gr_publish.specs.Root.{IsApplied, IsRefused, Rooted}
+use Rattle.gr_db.specs.declared.entry.Entry.{Entry}
+use Rattle.gr_root.specs.Root.{IsApplied, IsRefused, Rooted}
 use Rattle.gr_publish.specs.declared.published.Published.{Published as Answer}
 use Rattle.gr_publish.specs.declared.published.Published.TheVariants.{Published, Refused, NoMemory}
-
--- the state after an entry, or its first fault, or no memory was found
-abbrev pub Applies : Rooted → Entry → Result Rooted (Failure Fault) → Type 0
-Applies root entry (Ok new) = IsApplied root new entry
-Applies root entry (Err (RootRefused fault)) = IsRefused root entry fault
-Applies root entry (Err RootNoMemory) = Unit {0}
 
 -- the entry stands at its place, the last one
 pub record IsPublished (old new : Rooted) (entry : Entry) (place : ℕ) : Type 0 where

@@ -2,12 +2,9 @@
 #![tactic(auto)]
 
 mod published;
-mod root;
 mod solo;
-mod table;
 #[cfg(test)]
 mod tests;
 
 pub use published::Published;
-pub use root::{Root, RootFault};
 pub use solo::Solo;

@@ -2,13 +2,16 @@
 ghost use Rattle.std.specs.Prelude.{◌≡◌, [], IfOk};
 ghost use Rattle.std.specs.Arc.{arc_value};
 ghost use Rattle.gr_base.specs.Limits.{IsInRange};
-ghost use Rattle.gr_model.specs.Entry.{HoldsText, IsValid, replay};
+ghost use Rattle.gr_root.specs.Root.{HoldsText};
+ghost use Rattle.gr_db.specs.Entry.{IsValid};
+ghost use Rattle.gr_db.specs.Apply.{replay};
 ghost use Rattle.gr_publish.specs.Inside.Applying.{AppliesShared};
 ghost use Rattle.gr_publish.specs.Publish.{Publishes};
 
-use super::{Published, Root, RootFault};
-use gr_base::{Failure, Limits, NoMemory};
-use gr_model::Entry;
+use super::Published;
+use gr_base::{Failure, Fault, Limits, NoMemory};
+use gr_db::Entry;
+use gr_root::Root;
 use std::alloc::Global;
 use std::marker::Model;
 use std::sync::Arc;
@@ -21,7 +24,7 @@ pub struct Solo {
 
 impl Model for Solo {
     ghost use Rattle.std.specs.Arc.{arc_value};
-    ghost use Rattle.gr_publish.specs.Root.{Rooted};
+    ghost use Rattle.gr_root.specs.Root.{Rooted};
 
     ghost Value = { Rooted };
 
@@ -34,7 +37,7 @@ impl Solo {
         requires { IsInRange limits }
         ensures { IfOk result (λ solo. solo ≡ record { limits = limits; journal = [] }) }
     {
-        let root = Arc::new(alloc, Root::empty(alloc, limits))?;
+        let root = Arc::new(alloc, Root::empty(limits))?;
         Ok(Solo { root })
     }
 
@@ -47,7 +50,7 @@ impl Solo {
 
     /// Publishes an entry, or says why not.
     pub fn publish(&mut self, alloc: Global, entry: Entry) -> Published
-        requires valid { IsValid (replay self.old.journal) entry.change }
+        requires valid { IsValid (replay self.old.journal).schema entry.change }
         requires text { HoldsText entry.change }
         ensures { Publishes self.old self.new entry result }
     {
@@ -63,8 +66,8 @@ impl Solo {
     }
 
     // The state after an entry, or why there is none.
-    fn applied(&self, alloc: Global, entry: Entry) -> Result<Arc<Root>, RootFault>
-        requires valid { IsValid (replay self.now.journal) entry.change }
+    fn applied(&self, alloc: Global, entry: Entry) -> Result<Arc<Root>, Failure<Fault>>
+        requires valid { IsValid (replay self.now.journal).schema entry.change }
         requires text { HoldsText entry.change }
         ensures { AppliesShared self.now entry result }
     {

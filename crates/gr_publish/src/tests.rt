@@ -1,11 +1,14 @@
-// The places and the faults that entries get, and what a pinned state shows.
+// The places and the faults that entries get, and a pinned state.
 ghost use Rattle.std.specs.Prelude.{◌≡◌, ◌<◌, IfOk, IsUtf8, length};
 ghost use Rattle.gr_base.specs.Limits.{IsInRange, IsUpTo};
-ghost use Rattle.gr_model.specs.Entry.{HoldsText, IsValid, replay};
+ghost use Rattle.gr_root.specs.Root.{HoldsText};
+ghost use Rattle.gr_db.specs.Entry.{IsValid};
+ghost use Rattle.gr_db.specs.Apply.{replay};
 
-use super::{Published, Root, Solo};
+use super::{Published, Solo};
 use gr_base::{Bytes, Limits, NoMemory, SessionNo, TableNo, fault_text};
-use gr_model::{Change, Entry, TableWish};
+use gr_db::{Change, Entry};
+use gr_schema::TableWish;
 use std::alloc::Global;
 use std::process::Abort;
 use std::sync::Arc;
@@ -20,7 +23,7 @@ fn text(alloc: Global, chars: &str) -> Result<Bytes, NoMemory>
 
 // The place and no text, or the mark and the fault's text.
 fn publish(solo: &mut Solo, alloc: Global, change: Change) -> Result<(u64, Bytes), NoMemory>
-    requires valid { IsValid (replay solo.old.journal) change }
+    requires valid { IsValid (replay solo.old.journal).schema change }
     requires text { HoldsText change }
 {
     let entry = Entry {
@@ -47,32 +50,8 @@ fn create(solo: &mut Solo, alloc: Global, name: &str) -> Result<(u64, Bytes), No
     publish(solo, alloc, Change::CreateTable(wish))
 }
 
-fn number_of(rt: &impl Abort, root: &Root, table: &str) -> TableNo
-    ensures { result.0 < length (replay root.now.journal).tables }
-{
-    root.table_number(table.as_bytes()).expect(rt, "a table")
-}
-
-fn key_at<'a>(rt: &impl Abort, root: &'a Root, table: &str, place: usize) -> Option<&'a [u8]> {
-    let key = root.keys(number_of(rt, root, table)).get(place)?;
-    Some(key.as_slice())
-}
-
-fn put(
-    rt: &impl Abort,
-    solo: &mut Solo,
-    alloc: Global,
-    table: &str,
-    key: &str,
-) -> Result<(u64, Bytes), NoMemory> {
-    let table = number_of(rt, solo.pin(), table);
-    assert!(rt; 1 <= key.len() && key.len() <= 4096);
-    let key = text(alloc, key)?;
-    publish(solo, alloc, Change::Put { table, key })
-}
-
-// A table to be created, or to take a key; then the place and no text, or the mark and the fault's text.
-type Step<'a> = (&'a str, Option<&'a str>, u64, &'a str);
+// A table that is to be created; then the place and no text, or the mark and the fault's text.
+type Step<'a> = (&'a str, u64, &'a str);
 
 fn take_steps(
     rt: &impl Abort,
@@ -80,11 +59,8 @@ fn take_steps(
     alloc: Global,
     steps: &[Step],
 ) -> Result<(), NoMemory> {
-    for (table, key, mark, text) in steps {
-        let answer = match key {
-            None => create(solo, alloc, table)?,
-            Some(key) => put(rt, solo, alloc, table, key)?,
-        };
+    for (table, mark, text) in steps {
+        let answer = create(solo, alloc, table)?;
         assert_eq!(rt; answer.0, *mark, "of {table} at {mark}");
         assert_eq!(rt;
             answer.1.as_slice(),
@@ -111,49 +87,18 @@ fn small(records: u32, journal: u64) -> Limits
 #[test]
 fn each_entry_gets_its_place_or_its_first_fault(rt: HostRuntime) -> Result<(), Fail> {
     let alloc = rt.alloc();
-    let mut solo = Solo::new(alloc, small(2, 6))?;
+    let mut solo = Solo::new(alloc, small(2, 2))?;
     let steps = [
-        ("_x", None, 0, "BadName _x"),
-        ("T", None, 0, ""),
-        ("T", None, 1, "NameTaken T"),
-        ("Int8", None, 1, "NameTaken Int8"),
-        ("U", None, 1, ""),
-        ("T", Some("a"), 2, ""),
-        ("T", Some("b"), 3, ""),
-        ("T", Some("c"), 4, "TableFull T"),
-        ("T", Some("a"), 4, ""),
-        ("U", Some("c"), 5, ""),
-        ("U", Some("d"), 6, "JournalFull"),
-        ("T", Some("c"), 6, "TableFull T"),
+        ("_x", 0, "BadName _x"),
+        ("T", 0, ""),
+        ("T", 1, "NameTaken T"),
+        ("Int8", 1, "NameTaken Int8"),
+        ("U", 1, ""),
+        ("V", 2, "JournalFull"),
+        ("U", 2, "NameTaken U"),
     ];
     take_steps(&rt, &mut solo, alloc, &steps)?;
-    let root = solo.close();
-    assert_eq!(rt; root.journal().len(), 6);
-    let records = [
-        ("T", 0, Some("a")),
-        ("T", 1, Some("b")),
-        ("T", 2, None),
-        ("U", 0, Some("c")),
-        ("U", 1, None),
-    ];
-    for (table, place, want) in records {
-        let key = key_at(&rt, &root, table, place);
-        assert_eq!(rt; key, want.map(str::as_bytes), "at {place} of {table}");
-    }
-    Ok(())
-}
-
-#[test]
-fn a_full_journal_is_told_last(rt: HostRuntime) -> Result<(), Fail> {
-    let alloc = rt.alloc();
-    let mut solo = Solo::new(alloc, small(1, 1))?;
-    let steps = [
-        ("T", None, 0, ""),
-        ("U", None, 1, "JournalFull"),
-        ("1", None, 1, "BadName 1"),
-        ("T", None, 1, "NameTaken T"),
-    ];
-    take_steps(&rt, &mut solo, alloc, &steps)?;
+    assert_eq!(rt; solo.close().journal().len(), 2);
     Ok(())
 }
 
@@ -164,15 +109,10 @@ fn a_pinned_state_stays_as_it_was(rt: HostRuntime) -> Result<(), Fail> {
     create(&mut solo, alloc, "T")?;
     let before = Arc::try_clone(solo.pin())?;
     create(&mut solo, alloc, "U")?;
-    put(&rt, &mut solo, alloc, "T", "a")?;
     let after = solo.close();
-    for (root, len, number, key) in [
-        (&before, 1, None, None),
-        (&after, 3, Some(TableNo(1)), Some(b"a".as_slice())),
-    ] {
-        assert_eq!(rt; root.journal().len(), len);
-        assert_eq!(rt; root.table_number(b"U"), number);
-        assert_eq!(rt; key_at(&rt, root, "T", 0), key);
-    }
+    assert_eq!(rt; before.journal().len(), 1);
+    assert_eq!(rt; before.schema().table(b"U"), None);
+    assert_eq!(rt; after.journal().len(), 2);
+    assert_eq!(rt; after.schema().table(b"U"), Some(TableNo(1)));
     Ok(())
 }

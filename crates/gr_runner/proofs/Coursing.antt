@@ -5,7 +5,7 @@ use Rattle.std.proofs.lemmas.List.{length_push, map-append}
 use Rattle.std.proofs.lemmas.List.Elements.{Contains-push_cases}
 use Rattle.std.specs.List.{AllByRecursion, Contains}
 use Rattle.gr_base.specs.declared.numbers.Limits.{Limits}
-use Rattle.gr_model.specs.declared.entry.Entry.{Entry}
+use Rattle.gr_db.specs.declared.entry.Entry.{Entry}
 use Rattle.gr_outside.specs.Outside.{Told}
 use Rattle.gr_runner.specs.Course.{Course, IsAmong, RunsPhase}
 use Rattle.gr_runner.specs.History.{IsBefore, label_of, labels_in, labels_of, sources_of}

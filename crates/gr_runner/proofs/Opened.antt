@@ -1,7 +1,7 @@
 -- A run over an opened file is a run over its name.
 use Rattle.std.proofs.Common.{ℕ, ◌<◌, ◌++◌, List, [], ◌∷◌, zero, suc, subst, take}
 use Rattle.gr_base.specs.declared.numbers.Limits.{Limits}
-use Rattle.gr_model.specs.declared.entry.Entry.{Entry}
+use Rattle.gr_db.specs.declared.entry.Entry.{Entry}
 use Rattle.gr_outside.specs.Outside.{IsAsTold, Taken, Told}
 use Rattle.gr_cmdline.specs.declared.command.Item.{Item}
 use Rattle.gr_runner.specs.History.{AllHold, History}

@@ -6,9 +6,9 @@ use Rattle.std.specs.List.{AllByRecursion}
 use Rattle.std.specs.Result.{IsErr}
 use Rattle.gr_base.specs.declared.memory.NoMemory.{NoMemory}
 use Rattle.gr_base.specs.declared.numbers.Limits.{Limits}
-use Rattle.gr_model.specs.Accepted.{IsAccepted}
-use Rattle.gr_model.specs.declared.entry.Entry.{Entry}
-use Rattle.gr_publish.specs.Root.{Rooted}
+use Rattle.gr_db.specs.Accepted.{IsAccepted}
+use Rattle.gr_db.specs.declared.entry.Entry.{Entry}
+use Rattle.gr_root.specs.Root.{Rooted}
 use Rattle.gr_session.proofs.OwnLemmas.{own_from-others}
 use Rattle.gr_session.specs.Own.{is_own, own}
 use Rattle.gr_session.specs.Reply.{IsStarved, Reply}

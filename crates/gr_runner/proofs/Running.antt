@@ -9,9 +9,9 @@ use Rattle.std.specs.Io.KnownBytes.{Appends}
 use Rattle.std.specs.List.{AllByRecursion, Contains, flat_map}
 use Rattle.std.specs.declared.sync.Arc.{Arc}
 use Rattle.gr_base.specs.declared.numbers.Limits.{Limits}
-use Rattle.gr_model.specs.declared.entry.Entry.{Entry}
+use Rattle.gr_db.specs.declared.entry.Entry.{Entry}
 use Rattle.gr_outside.specs.Outside.{Taken, Told}
-use Rattle.gr_publish.specs.Root.{Rooted}
+use Rattle.gr_root.specs.Root.{Rooted}
 use Rattle.gr_runner.specs.Course.{Course, EndsPhase, IsEnding, RunsPhase, status_of_end}
 use Rattle.gr_runner.specs.History.{IsOwned, sources_of}
 use Rattle.gr_runner.specs.Run.{Run, first_unfinished, texts_of}

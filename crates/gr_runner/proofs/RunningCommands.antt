@@ -2,7 +2,7 @@
 use Rattle.std.proofs.Common.{◌≡◌, ℕ, ◌++◌, Bool, Result, Ok, Err, List, [], ◌∷◌, true, false, refl, sym, ap, ◌∙◌, append_assoc, append-nil}
 use Rattle.std.specs.Result.{IsErr, is_err}
 use Rattle.gr_base.specs.declared.memory.NoMemory.{NoMemory}
-use Rattle.gr_model.specs.declared.entry.Entry.{Entry}
+use Rattle.gr_db.specs.declared.entry.Entry.{Entry}
 use Rattle.gr_session.specs.Step.{Standing}
 use Rattle.gr_cmdline.specs.Stream.{GivesItem, IsDrained, Stream, items_left}
 use Rattle.gr_cmdline.specs.declared.command.Item.{Item}

@@ -3,7 +3,7 @@ use Rattle.std.proofs.Common.{◌≡◌, ℕ, ◌+◌, ◌-◌, ◌^◌, ◌≤�
 use Rattle.std.proofs.lemmas.List.{length_push}
 use Rattle.std.specs.List.{AllByRecursion}
 use Rattle.gr_base.specs.declared.numbers.Limits.{Limits}
-use Rattle.gr_model.specs.declared.entry.Entry.{Entry}
+use Rattle.gr_db.specs.declared.entry.Entry.{Entry}
 use Rattle.gr_outside.specs.Outside.{Told}
 use Rattle.gr_runner.specs.Course.{RunsPhase}
 use Rattle.gr_runner.specs.Served.{IsOfSession, Serves}

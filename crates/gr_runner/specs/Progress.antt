@@ -3,8 +3,8 @@ use Rattle.std.specs.Prelude.{ℕ, ◌≡◌, ◌<◌, ◌≤◌, ◌⊎◌, ◌
 use Rattle.std.specs.List.{AllByRecursion}
 use Rattle.gr_base.specs.declared.memory.NoMemory.{NoMemory}
 use Rattle.gr_base.specs.declared.numbers.Limits.{Limits}
-use Rattle.gr_model.specs.Accepted.{IsAccepted}
-use Rattle.gr_model.specs.declared.entry.Entry.{Entry}
+use Rattle.gr_db.specs.Accepted.{IsAccepted}
+use Rattle.gr_db.specs.declared.entry.Entry.{Entry}
 use Rattle.gr_outside.specs.Outside.{Told}
 use Rattle.gr_cmdline.specs.Commands.{items_behind}
 use Rattle.gr_session.specs.Step.{Standing}

@@ -3,8 +3,8 @@ use Rattle.std.specs.Prelude.{Option, Some, None, List, []}
 use Rattle.std.specs.Arc.{arc_value}
 use Rattle.std.specs.Global.{Global}
 use Rattle.std.specs.declared.sync.Arc.{Arc}
-use Rattle.gr_model.specs.declared.entry.Entry.{Entry}
-use Rattle.gr_publish.specs.Root.{Rooted}
+use Rattle.gr_db.specs.declared.entry.Entry.{Entry}
+use Rattle.gr_root.specs.Root.{Rooted}
 use Rattle.gr_runner.specs.declared.report.Report.{Report}
 
 -- the journal of a state, and none where there is no state

@@ -1,7 +1,7 @@
 -- What a session's log means, read off the whole journal.
 use Rattle.std.specs.Prelude.{ℕ, ◌≡◌, ◌+◌, ◌≤◌, ◌⊎◌, List, [], ◌∷◌, length}
 use Rattle.gr_base.specs.declared.numbers.Limits.{Limits}
-use Rattle.gr_model.specs.declared.entry.Entry.{Entry}
+use Rattle.gr_db.specs.declared.entry.Entry.{Entry}
 use Rattle.gr_outside.specs.Outside.{Told}
 use Rattle.gr_session.specs.Reply.{IsStarved, Reply}
 use Rattle.gr_cmdline.specs.declared.command.Item.{Item}

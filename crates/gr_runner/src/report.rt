@@ -1,7 +1,7 @@
 // What a run reports of itself.
 use super::Status;
 use gr_base::{ListOf, SessionNo};
-use gr_publish::Root;
+use gr_root::Root;
 use gr_session::Done;
 use std::sync::Arc;
 

@@ -5,7 +5,7 @@ ghost use Rattle.std.specs.Global.{Global};
 ghost use Rattle.std.specs.List.{AllByRecursion};
 ghost use Rattle.std.specs.declared.sync.Arc.{Arc};
 ghost use Rattle.gr_base.specs.Limits.{IsInRange};
-ghost use Rattle.gr_publish.specs.Root.{Rooted};
+ghost use Rattle.gr_root.specs.Root.{Rooted};
 ghost use Rattle.gr_runner.specs.Complete.{IsCompleteRun};
 ghost use Rattle.gr_runner.specs.Course.{EndsPhase, RunsPhase, status_of_end};
 ghost use Rattle.gr_runner.specs.History.{sources_of};
@@ -16,7 +16,8 @@ use super::write::write_logs;
 use super::{End, Report, SessionLog, SessionLogs, Status};
 use gr_base::{Limits, NoMemory, SessionNo};
 use gr_outside::{Sink, Source};
-use gr_publish::{Root, Solo};
+use gr_publish::Solo;
+use gr_root::Root;
 use std::alloc::Global;
 use std::sync::Arc;
 

@@ -1,5 +1,5 @@
 // The schema: its tables and its index columns, looked up by name and number.
-ghost use Rattle.std.specs.Prelude.{◌≡◌, ◌<◌, ◌^◌, ◌++◌, ◌∷◌, [], IfOk, IfSome, length, if◌then◌else◌};
+ghost use Rattle.std.specs.Prelude.{◌≡◌, ◌<◌, ◌≤◌, ◌^◌, ◌++◌, ◌∷◌, [], IfOk, IfSome, length, if◌then◌else◌};
 ghost use Rattle.std.specs.Option.{option_and_then, option_copied, option_map};
 ghost use Rattle.gr_schema.specs.Inside.Held.{list_of};
 ghost use Rattle.gr_schema.specs.Schema.{Extends, column_at, column_count, column_named, is_index, no_tables, table_at, table_named, with_column, with_table};
@@ -57,7 +57,8 @@ impl Schema {
 
     /// How many tables there are.
     pub fn table_count(&self) -> u64
-        ensures { result ≡ length self.now.tables }
+        ensures exact { result ≡ length self.now.tables }
+        ensures few { length self.now.tables ≤ 2 ^ 31 }
     {
         self.tables.len()
     }

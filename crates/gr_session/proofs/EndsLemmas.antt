@@ -1,13 +1,13 @@
 -- What the last step of a command makes of its reply.
-use Rattle.std.proofs.Common.{◌≡◌, ℕ, ◌+◌, ◌≤◌, Bool, true, false, MatchBool, Option, Some, IfSome, List, [], length, inl, inr, sym, ap, subst, ◌∙◌, arith}
+use Rattle.std.proofs.Common.{◌≡◌, ℕ, ◌+◌, ◌≤◌, Bool, true, false, MatchBool, Option, Some, IfSome, List, length, inl, inr, sym, ap, subst, ◌∙◌, arith}
 use Rattle.std.proofs.lemmas.List.{take_at}
 use Rattle.gr_base.specs.declared.fault.Fault.{Fault}
-use Rattle.gr_model.specs.Entry.{replay}
-use Rattle.gr_model.specs.declared.entry.Entry.{Entry}
+use Rattle.gr_db.specs.Apply.{replay}
+use Rattle.gr_db.specs.declared.entry.Entry.{Entry}
 use Rattle.gr_session.specs.Commands.{meaning_of}
 use Rattle.gr_session.specs.Inside.Stepping.{IsFinished, Proceeds, Stops, taken_up}
 use Rattle.gr_session.specs.Reply.{IsStarved, meaning_at}
-use Rattle.gr_publish.specs.Root.{Rooted}
+use Rattle.gr_root.specs.Root.{Rooted}
 use Rattle.gr_publish.specs.declared.published.Published.{Published as Answer}
 use Rattle.gr_publish.specs.declared.published.Published.TheVariants.{Published, Refused}
 use Rattle.gr_session.specs.Step.{AsksNext, Begins, BeginsWith, Ends, Going, GoesOn, HoldsAfterLast, HoldsWhereRefused, Standing, begun, gone_on, made_at}

@@ -2,7 +2,7 @@
 use Rattle.std.proofs.Common.{◌≡◌, ℕ, ◌+◌, ◌<◌, ◌^◌, Some, List, [], ◌∷◌, ◌++◌, length, reverse, refl, sym, ap, ◌∙◌, arith, append_assoc, append-nil, length-append}
 use Rattle.std.proofs.lemmas.List.{length-reverse, reverse-append}
 use Rattle.std.specs.List.{AllByRecursion, slice_get}
-use Rattle.gr_model.specs.declared.entry.Change.{Change}
+use Rattle.gr_db.specs.declared.entry.Change.{Change}
 use Rattle.gr_session.specs.Inside.Kept.{Holds}
 
 -- at first all are held

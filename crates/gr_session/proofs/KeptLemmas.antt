@@ -1,8 +1,8 @@
 -- What is kept of a command as it begins.
-use Rattle.std.proofs.Common.{◌≡◌, ℕ, ◌≤◌, ◌<◌, ◌^◌, length, reverse, sym, ap, ◌∙◌}
+use Rattle.std.proofs.Common.{◌≡◌, ◌≤◌, ◌<◌, ◌^◌, length, sym, ap, ◌∙◌}
 use Rattle.std.specs.Arc.{arc_value}
-use Rattle.gr_model.specs.Entry.{replay}
-use Rattle.gr_session.specs.Inside.Forms.{form_of}
+use Rattle.gr_db.specs.Apply.{replay}
+use Rattle.gr_session.specs.Inside.Forms.{IsLegible, form_of}
 use Rattle.gr_session.specs.Inside.Kept.{Asks, IsKept, meant}
 use Rattle.gr_session.specs.Meaning.{body_after, meaning_in}
 use Rattle.gr_session.specs.ReplyText.{want_of_memory_line}
@@ -15,9 +15,9 @@ use Rattle.gr_session.proofs.MeaningLemmas.{IsIn-meaning_of}
 pub IsKept-begun : (command : UnderWay) (asked : Asked) → Asks (replay (arc_value command.root).journal) (meant command) asked
     → command.changes ≡ asked.changes → command.answer ≡ asked.answer → length asked.changes.items < 2 ^ 64
     → command.form ≡ form_of command.item → length (arc_value command.root).journal ≤ command.reached
-    → command.made ≡ 0 → command.starved ≡ want_of_memory_line (body_after command.form 0)
+    → command.made ≡ 0 → command.starved ≡ want_of_memory_line (body_after command.form 0) → IsLegible command.form
     → IsKept command 0
-IsKept-begun command asked asks changes answer few form from none starved = record {
+IsKept-begun command asked asks changes answer few form from none starved legible = record {
   fit = asks.fit;
   holds = rw changes (Holds-all (meant command).changes asked.changes.items asks.changes few);
   means =
@@ -26,4 +26,5 @@ IsKept-begun command asked asks changes answer few form from none starved = reco
       ∙ ap (meaning_in command.form (meant command).changes) (sym (answer ∙ asks.answer));
   from = from;
   starved = rw none starved;
+  legible = legible;
 }

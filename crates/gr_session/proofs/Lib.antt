@@ -1,13 +1,13 @@
+mod DeleteLemmas
 mod EndsLemmas
 mod HoldsLemmas
+mod HomeLemmas
 mod KeptLemmas
 mod LoadLemmas
 mod MeaningLemmas
 pub mod OwnLemmas
 pub mod ReplyLemmas
 mod ReplyTextLemmas
-mod RowsLemmas
 mod SelectLemmas
 mod StepsLemmas
-mod TableLemmas
-mod ValidLemmas
+mod ToldLemmas

@@ -5,57 +5,65 @@ use Rattle.gr_base.specs.declared.fault.Fault.{Fault}
 use Rattle.gr_cmdline.specs.declared.command.Command.{Command}
 use Rattle.gr_cmdline.specs.declared.command.Item.{Item}
 use Rattle.gr_cmdline.specs.declared.command.Item.TheVariants.{Command as ByCommand, Bad}
+use Rattle.gr_cmdline.specs.declared.param.Param.TheVariants.{Table as OfTable}
 use Rattle.gr_cmdline.specs.declared.verb.Verb.{Verb}
 use Rattle.gr_cmdline.specs.declared.verb.Verb.TheVariants.{TableCreate, ColumnCreate, Load, Delete, Select, Dump}
-use Rattle.gr_model.specs.Db.{Db, Table, table_number}
-use Rattle.gr_model.specs.declared.entry.TableWish.{TableWish}
-use Rattle.gr_session.specs.Checks.{first_failed, text_of}
-use Rattle.gr_session.specs.Commands.{form_of_verb, meaning_by_verb, meaning_of, meaning_unless}
+use Rattle.gr_base.specs.declared.numbers.TableNo.{TableNo}
+use Rattle.gr_db.specs.Db.{Db}
+use Rattle.gr_db.specs.declared.entry.Which.{Which}
+use Rattle.gr_schema.specs.Schema.{SchemaDef}
+use Rattle.gr_schema.specs.Wishes.{Home, home_named}
+use Rattle.gr_session.specs.Checks.{text_of}
+use Rattle.gr_session.specs.Commands.{form_by_verb, form_of_command, meaning_by_verb, meaning_of, meaning_unless}
+use Rattle.gr_session.specs.Delete.{delete_of, delete_which, name_given, which_in}
 use Rattle.gr_session.specs.Fixed.{fixed_fault}
 use Rattle.gr_session.specs.Inside.Forms.{form_of}
 use Rattle.gr_session.specs.Inside.Kept.{Asks}
-use Rattle.gr_session.specs.Load.{load_into, load_unless}
+use Rattle.gr_session.specs.Load.{load_at}
 use Rattle.gr_session.specs.Meaning.{Meaning, body_after, meaning_in}
 use Rattle.gr_session.specs.ReplyText.{want_of_memory_line}
-use Rattle.gr_session.specs.Select.{select_of, select_unless, table_named}
-use Rattle.gr_session.specs.TableCreate.{creation_unless}
+use Rattle.gr_session.specs.Select.{select_of, select_unless, shown, told}
 use Rattle.gr_session.specs.declared.asked.Asked.{Asked}
 use Rattle.gr_session.specs.declared.form.Form.{Form}
-use Rattle.gr_session.specs.declared.form.Form.TheVariants.{Plain, Counting}
+use Rattle.gr_session.specs.declared.form.Form.TheVariants.{Plain, Counting, Naming}
 
 -- a meaning is its changes and its answer, with the other replies written in this form
 abbrev pub IsIn : Form → Meaning → Type 0
 IsIn form meaning = meaning ≡ meaning_in form meaning.changes meaning.answer
 
-IsIn-creation : (fault : Option Fault) (wish : TableWish) → IsIn Plain (creation_unless fault wish)
-IsIn-creation (Some fault) wish = refl
-IsIn-creation None wish = refl
+IsIn-load_at : (schema : SchemaDef) (home : Option Home) (command : Command) → IsIn Counting (load_at schema home command)
+IsIn-load_at schema (Some home) command = refl
+IsIn-load_at schema None command = refl
 
-IsIn-load_into : (number : Option ℕ) (table values : List ℕ) → IsIn Counting (load_into number table values)
-IsIn-load_into (Some number) table values = refl
-IsIn-load_into None table values = refl
+IsIn-told : (text : Result (List ℕ) Fault) → IsIn Plain (told text)
+IsIn-told (Ok text) = refl
+IsIn-told (Err fault) = refl
 
-IsIn-load : (fault : Option Fault) (db : Db) (table values : List ℕ) → IsIn Counting (load_unless fault db table values)
-IsIn-load (Some fault) db table values = refl
-IsIn-load None db table values = IsIn-load_into (table_number db table) table values
+IsIn-select_of : (db : Db) (home : Option Home) (command : Command) → IsIn Plain (select_of db home command)
+IsIn-select_of db (Some home) command = IsIn-told (shown db home command)
+IsIn-select_of db None command = refl
 
-IsIn-select_of : (found : Option Table) (table : List ℕ) → IsIn Plain (select_of found table)
-IsIn-select_of (Some found) table = refl
-IsIn-select_of None table = refl
+IsIn-select : (fault : Option Fault) (db : Db) (command : Command) → IsIn Plain (select_unless fault db command)
+IsIn-select (Some fault) db command = refl
+IsIn-select None db command = IsIn-select_of db (home_named db.schema (text_of command OfTable)) command
 
-IsIn-select : (fault : Option Fault) (db : Db) (table : List ℕ) → IsIn Plain (select_unless fault db table)
-IsIn-select (Some fault) db table = refl
-IsIn-select None db table = IsIn-select_of (table_named db table) table
+IsIn-which : (form : Form) (table : TableNo) (which : Result Which Fault) → IsIn form (delete_which form table which)
+IsIn-which form table (Ok which) = refl
+IsIn-which form table (Err fault) = refl
 
-IsIn-verb : (verb : Verb) (db : Db) (command : Command) → IsIn (form_of_verb verb) (meaning_by_verb verb db command)
-IsIn-verb TableCreate db command = IsIn-creation _ _
+IsIn-delete_of : (form : Form) (home : Option Home) (command : Command) → IsIn form (delete_of form home command)
+IsIn-delete_of form (Some home) command = IsIn-which form home.number (which_in home.def command)
+IsIn-delete_of form None command = refl
+
+IsIn-verb : (verb : Verb) (db : Db) (command : Command) → IsIn (form_by_verb verb command) (meaning_by_verb verb db command)
+IsIn-verb TableCreate db command = refl
 IsIn-verb ColumnCreate db command = refl
-IsIn-verb Load db command = IsIn-load _ db _ _
-IsIn-verb Delete db command = refl
-IsIn-verb Select db command = IsIn-select _ db _
+IsIn-verb Load db command = IsIn-load_at db.schema (home_named db.schema (text_of command OfTable)) command
+IsIn-verb Delete db command = IsIn-delete_of (Naming (name_given command)) (home_named db.schema (text_of command OfTable)) command
+IsIn-verb Select db command = IsIn-select _ db command
 IsIn-verb Dump db command = refl
 
-IsIn-unless : (fault : Option Fault) (db : Db) (command : Command) → IsIn (form_of_verb command.verb) (meaning_unless fault db command)
+IsIn-unless : (fault : Option Fault) (db : Db) (command : Command) → IsIn (form_of_command command) (meaning_unless fault db command)
 IsIn-unless (Some fault) db command = refl
 IsIn-unless None db command = IsIn-verb command.verb db command
 

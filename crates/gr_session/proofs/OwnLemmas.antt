@@ -1,8 +1,8 @@
 -- A command's own entries in a journal that grows, and those that it has just published.
 use Rattle.std.proofs.Common.{◌≡◌, ℕ, ◌+◌, ◌<◌, ◌≤◌, true, false, if◌then◌else◌, Some, zero, suc, List, [], ◌∷◌, ◌++◌, length, map, take, refl, sym, ap, ◌∙◌, arith, zero-add, add-zero, add-one, append-nil, append_assoc, eq-eqb}
 use Rattle.std.specs.List.{AllByRecursion, slice_get}
-use Rattle.gr_model.specs.declared.entry.Change.{Change}
-use Rattle.gr_model.specs.declared.entry.Entry.{Entry}
+use Rattle.gr_db.specs.declared.entry.Change.{Change}
+use Rattle.gr_db.specs.declared.entry.Entry.{Entry}
 use Rattle.gr_session.specs.Entries.{entries_of, entry_of}
 use Rattle.gr_session.specs.Own.{is_own, own, own_from}
 use Rattle.gr_session.specs.Reply.{after_last}

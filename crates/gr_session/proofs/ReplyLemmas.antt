@@ -4,8 +4,8 @@ use Rattle.std.proofs.lemmas.List.{take-append-le}
 use Rattle.std.specs.List.{AllByRecursion}
 use Rattle.gr_base.specs.declared.numbers.Limits.{Limits}
 use Rattle.gr_cmdline.specs.declared.command.Item.{Item}
-use Rattle.gr_model.specs.Entry.{replay}
-use Rattle.gr_model.specs.declared.entry.Entry.{Entry}
+use Rattle.gr_db.specs.Apply.{replay}
+use Rattle.gr_db.specs.declared.entry.Entry.{Entry}
 use Rattle.gr_session.specs.Commands.{meaning_of}
 use Rattle.gr_session.specs.Own.{is_own, own}
 use Rattle.gr_session.specs.Reply.{IsStarved, IsStopped, IsWhole, OwnsFirst, Reply, meaning_at}

@@ -1,12 +1,13 @@
 -- What a command has made so far on one thread.
-use Rattle.std.proofs.Common.{◌≡◌, ℕ, ◌+◌, ◌-◌, ◌<◌, Bool, true, false, MatchBool, Option, Some, None, IfSome, List, [], ◌∷◌, ◌++◌, suc, length, take, refl, sym, ap, subst, ◌∙◌, arith, append-nil, append_assoc, length-append}
+use Rattle.std.proofs.Common.{◌≡◌, ℕ, ◌+◌, ◌-◌, ◌<◌, Option, Some, None, IfSome, List, [], ◌∷◌, ◌++◌, suc, length, take, refl, sym, ap, subst, ◌∙◌, arith, append-nil, append_assoc, length-append}
 use Rattle.std.proofs.lemmas.List.{length_push, take_all}
 use Rattle.std.proofs.lemmas.Option.{slice_get_within}
-use Rattle.gr_model.specs.Accepted.{IsAccepted}
-use Rattle.gr_model.specs.Entry.{IsValid, replay}
-use Rattle.gr_model.specs.declared.entry.Entry.{Entry}
+use Rattle.gr_db.specs.Accepted.{IsAccepted}
+use Rattle.gr_db.specs.Entry.{IsValid}
+use Rattle.gr_db.specs.Apply.{replay}
+use Rattle.gr_db.specs.declared.entry.Entry.{Entry}
 use Rattle.gr_publish.specs.Publish.{Publishes}
-use Rattle.gr_publish.specs.Root.{Rooted}
+use Rattle.gr_root.specs.Root.{Rooted}
 use Rattle.gr_publish.specs.declared.published.Published.{Published as Answer}
 use Rattle.gr_publish.specs.declared.published.Published.TheVariants.{Published, Refused, NoMemory}
 use Rattle.gr_session.specs.Commands.{meaning_of}
@@ -20,7 +21,7 @@ use Rattle.gr_session.specs.declared.session.Done.{Done}
 use Rattle.gr_session.specs.declared.session.Step.{Step}
 use Rattle.gr_session.specs.declared.session.Step.TheVariants.{Publish, Done as Finished}
 use Rattle.gr_session.proofs.EndsLemmas.{claimed, meaning_at-begins}
-use Rattle.gr_session.proofs.ValidLemmas.{IsValid-grown}
+use Rattle.gr_db.proofs.Grows.{IsValid-grown}
 use Rattle.gr_session.proofs.OwnLemmas.{AreOwn-first, after_last-placed, entries-more, entries-placed, length-placed, own-grown, placed_from, places-placed}
 
 -- behind the journal that a command was read at stand the first so many of its entries, each accepted
@@ -138,7 +139,7 @@ AsksNext-under_way : (before : Standing) (past going : Going) (entry : Entry) �
 AsksNext-under_way before past going entry asks = record { change = asks.change; entry_is = asks.entry_is; valid = asks.valid; text = asks.text }
 
 -- what was asked for is valid where the journal stands now
-pub Publishing-valid : (before session : Standing) (old now : Rooted) (item : Item) (entry : Entry) → Publishing before session old now item entry → IsValid (replay now.journal) entry.change
+pub Publishing-valid : (before session : Standing) (old now : Rooted) (item : Item) (entry : Entry) → Publishing before session old now item entry → IsValid (replay now.journal).schema entry.change
 Publishing-valid before session old now item entry publishing =
     rw publishing.grown.grows (IsValid-grown old.journal publishing.grown.added entry.change publishing.asks.valid)
 

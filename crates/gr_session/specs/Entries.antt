@@ -1,7 +1,7 @@
 -- The entries that a command's changes become.
 use Rattle.std.specs.Prelude.{ℕ, ◌+◌, List, [], ◌∷◌}
-use Rattle.gr_model.specs.declared.entry.Change.{Change}
-use Rattle.gr_model.specs.declared.entry.Entry.{Entry}
+use Rattle.gr_db.specs.declared.entry.Change.{Change}
+use Rattle.gr_db.specs.declared.entry.Entry.{Entry}
 
 -- an entry of a session's command
 abbrev pub entry_of : ℕ → ℕ → ℕ → Change → Entry

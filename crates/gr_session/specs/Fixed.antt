@@ -1,5 +1,5 @@
 -- The parameters that take one value or none, whatever the command.
-use Rattle.std.specs.Prelude.{ℕ, Bool, true, false, ◌&&◌, Option, List, [], ◌∷◌, codes}
+use Rattle.std.specs.Prelude.{Bool, true, false, ◌&&◌, Option, List, [], ◌∷◌, codes}
 use Rattle.gr_base.specs.declared.fault.Fault.{Fault}
 use Rattle.gr_cmdline.specs.Arguments.{is_given}
 use Rattle.gr_cmdline.specs.declared.command.Command.{Command}

@@ -3,9 +3,12 @@ pub mod Meaning
 pub mod Checks
 pub mod Fixed
 pub mod TableCreate
+pub mod ColumnCreate
+pub mod Delete
 pub mod Load
+pub mod Numbers
 pub mod Select
-pub mod NotBuilt
+pub mod Dump
 pub mod Commands
 pub mod Entries
 pub mod Own

@@ -1,6 +1,6 @@
 -- Which entries of the whole journal a session's command owns.
 use Rattle.std.specs.Prelude.{ℕ, ◌+◌, ◌==◌, ◌&&◌, Bool, if◌then◌else◌, List, [], ◌∷◌, ◌++◌}
-use Rattle.gr_model.specs.declared.entry.Entry.{Entry}
+use Rattle.gr_db.specs.declared.entry.Entry.{Entry}
 
 -- whether an entry is of this command of this session
 abbrev pub is_own : ℕ → ℕ → Entry → Bool

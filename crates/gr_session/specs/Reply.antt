@@ -4,9 +4,9 @@ use Rattle.std.specs.List.{AllByRecursion}
 use Rattle.gr_base.specs.declared.fault.Fault.{Fault}
 use Rattle.gr_base.specs.declared.numbers.Limits.{Limits}
 use Rattle.gr_cmdline.specs.declared.command.Item.{Item}
-use Rattle.gr_model.specs.Entry.{fault_of, replay}
-use Rattle.gr_model.specs.declared.entry.Change.{Change}
-use Rattle.gr_model.specs.declared.entry.Entry.{Entry}
+use Rattle.gr_db.specs.Apply.{fault_of, replay}
+use Rattle.gr_db.specs.declared.entry.Change.{Change}
+use Rattle.gr_db.specs.declared.entry.Entry.{Entry}
 use Rattle.gr_session.specs.Commands.{meaning_of}
 use Rattle.gr_session.specs.Entries.{entries_of}
 use Rattle.gr_session.specs.Meaning.{Meaning}

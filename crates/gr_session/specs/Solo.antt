@@ -2,9 +2,9 @@
 use Rattle.std.specs.Prelude.{◌≡◌, ◌+◌, true, MatchBool, None, List, [], ◌++◌, length}
 use Rattle.std.specs.List.{AllByRecursion}
 use Rattle.gr_cmdline.specs.declared.command.Item.{Item}
-use Rattle.gr_model.specs.Accepted.{IsAccepted}
-use Rattle.gr_model.specs.declared.entry.Entry.{Entry}
-use Rattle.gr_publish.specs.Root.{Rooted}
+use Rattle.gr_db.specs.Accepted.{IsAccepted}
+use Rattle.gr_db.specs.declared.entry.Entry.{Entry}
+use Rattle.gr_root.specs.Root.{Rooted}
 use Rattle.gr_session.specs.Own.{is_own, own}
 use Rattle.gr_session.specs.Reply.{IsStarved, Reply}
 use Rattle.gr_session.specs.Step.{Standing}

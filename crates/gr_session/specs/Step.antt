@@ -3,9 +3,11 @@ use Rattle.std.specs.Prelude.{ℕ, ◌≡◌, ◌+◌, ◌-◌, ◌^◌, ◌<◌
 use Rattle.gr_base.specs.declared.fault.Fault.{Fault}
 use Rattle.gr_base.specs.declared.numbers.Limits.{Limits}
 use Rattle.gr_cmdline.specs.declared.command.Item.{Item}
-use Rattle.gr_model.specs.Entry.{HoldsText, IsValid, fault_of, replay}
-use Rattle.gr_model.specs.declared.entry.Entry.{Entry}
-use Rattle.gr_publish.specs.Root.{Rooted}
+use Rattle.gr_root.specs.Root.{HoldsText}
+use Rattle.gr_db.specs.Entry.{IsValid}
+use Rattle.gr_db.specs.Apply.{fault_of, replay}
+use Rattle.gr_db.specs.declared.entry.Entry.{Entry}
+use Rattle.gr_root.specs.Root.{Rooted}
 use Rattle.gr_publish.specs.declared.published.Published.{Published as Answer}
 use Rattle.gr_publish.specs.declared.published.Published.TheVariants.{Published, Refused, NoMemory}
 use Rattle.gr_session.specs.Commands.{meaning_of}
@@ -55,7 +57,7 @@ pub record Begins (base journal : List Entry) : Type 0 where
 pub record AsksNext (standing : Standing) (going : Going) (entry : Entry) : Type 0 where
   pub change : slice_get (meaning_of (replay going.base.journal) going.item).changes going.made ≡ Some entry.change
   pub entry_is : entry ≡ entry_of standing.session standing.command going.made entry.change
-  pub valid : IsValid (replay going.base.journal) entry.change
+  pub valid : IsValid (replay going.base.journal).schema entry.change
   pub text : HoldsText entry.change
 
 -- a command is done, with this mark: in each journal that begins so and in which its first entries stand and no others, the claim holds, or it met want of memory there

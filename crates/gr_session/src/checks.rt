@@ -1,10 +1,9 @@
 // Checks of parameters whose values are not all taken.
 ghost use Rattle.std.specs.Prelude.{◌≡◌, IfOk, IfSome, IsUtf8, find, option_map};
-ghost use Rattle.gr_base.specs.Fault.{fault_named};
-ghost use Rattle.gr_base.specs.declared.fault.FaultKind.TheVariants.{BadValue};
 ghost use Rattle.gr_cmdline.specs.Arguments.{AreTexts};
 ghost use Rattle.gr_session.specs.Checks.{first_failed, is_other, never, only, text_of};
 
+use crate::faults::fault_named;
 use gr_base::{Bytes, Fault, FaultKind, NoMemory};
 use gr_cmdline::{Command, Param};
 use std::alloc::Global;
@@ -48,7 +47,7 @@ pub(crate) fn first_failed(alloc: Global, checks: &[Check]) -> Result<Option<Fau
     ensures text { IfOk result (λ fault. IfSome fault (λ fault. IsUtf8 fault.name)) }
 {
     match failed_param(checks) {
-        Some(param) => Ok(Some(bad_value(alloc, param.name())?)),
+        Some(param) => Ok(Some(fault_named(alloc, FaultKind::BadValue, param.name())?)),
         None => Ok(None),
     }
 }
@@ -60,17 +59,6 @@ fn failed_param(checks: &[Check]) -> Option<Param>
     Some(check.param)
 }
 
-// BadValue with this name.
-pub(crate) fn bad_value(alloc: Global, name: &str) -> Result<Fault, NoMemory>
-    ensures exact { IfOk result (λ fault. fault ≡ fault_named BadValue name.now) }
-    ensures text { IfOk result (λ fault. IsUtf8 fault.name) }
-{
-    Ok(Fault::named(
-        FaultKind::BadValue,
-        Bytes::from_slice(alloc, name.as_bytes())?,
-    ))
-}
-
 // The value of a parameter, empty where none is given.
 pub(crate) fn text_of(command: &Command, param: Param) -> &str
     ensures { result.now ≡ text_of command.now param }
@@ -79,4 +67,12 @@ pub(crate) fn text_of(command: &Command, param: Param) -> &str
         Some(text) => text,
         None => "",
     }
+}
+
+// The same, with memory of its own.
+pub(crate) fn word_of(alloc: Global, command: &Command, param: Param) -> Result<Bytes, NoMemory>
+    ensures exact { IfOk result (λ word. word ≡ text_of command.now param) }
+    ensures text { IfOk result IsUtf8 }
+{
+    Bytes::from_slice(alloc, text_of(command, param).as_bytes())
 }

@@ -2,12 +2,14 @@
 ghost use Rattle.std.specs.Prelude.{◌≡◌, IfOk, IsUtf8};
 ghost use Rattle.gr_cmdline.specs.Arguments.{AreTexts};
 ghost use Rattle.gr_cmdline.specs.Commands.{IsItem};
-ghost use Rattle.gr_model.specs.Entry.{replay};
+ghost use Rattle.gr_db.specs.Apply.{replay};
 ghost use Rattle.gr_session.specs.Commands.{meaning_by_verb, meaning_of, meaning_unless};
 ghost use Rattle.gr_session.specs.Inside.Kept.{Asks};
 
+mod column_create;
+mod delete;
+mod dump;
 mod load;
-mod not_built;
 mod select;
 mod table_create;
 
@@ -16,11 +18,13 @@ ghost use Rattle.gr_session.specs.Fixed.{fixed_fault};
 use crate::asked::{Asked, refused};
 use crate::fixed::fixed_fault;
 use crate::form::Form;
+use column_create::column_create;
+use delete::delete;
+use dump::dump;
 use gr_base::NoMemory;
 use gr_cmdline::{Command, Item, Verb};
-use gr_publish::Root;
+use gr_root::Root;
 use load::load;
-use not_built::not_built;
 use select::select;
 use std::alloc::Global;
 use table_create::table_create;
@@ -32,7 +36,7 @@ pub(crate) fn asked_of(alloc: Global, root: &Root, item: &Item) -> Result<Asked,
 {
     match item {
         Item::Command(command) => asked_by(alloc, root, command),
-        Item::Bad(fault) => refused(alloc, Form::Plain, fault),
+        Item::Bad(fault) => refused(alloc, &Form::Plain, fault),
     }
 }
 
@@ -41,7 +45,7 @@ fn asked_by(alloc: Global, root: &Root, command: &Command) -> Result<Asked, NoMe
     ensures { IfOk result (λ asked. let db = replay root.now.journal in Asks db (meaning_unless (fixed_fault command.now) db command.now) asked) }
 {
     match fixed_fault(alloc, command)? {
-        Some(fault) => refused(alloc, Form::of_verb(command.verb), &fault),
+        Some(fault) => refused(alloc, &Form::of_command(alloc, command)?, &fault),
         None => asked_by_verb(alloc, root, command),
     }
 }
@@ -52,10 +56,10 @@ fn asked_by_verb(alloc: Global, root: &Root, command: &Command) -> Result<Asked,
 {
     match command.verb {
         Verb::TableCreate => table_create(alloc, command),
-        Verb::ColumnCreate => not_built(alloc, Verb::ColumnCreate),
+        Verb::ColumnCreate => column_create(alloc, command),
         Verb::Load => load(alloc, root, command),
-        Verb::Delete => not_built(alloc, Verb::Delete),
+        Verb::Delete => delete(alloc, root, command),
         Verb::Select => select(alloc, root, command),
-        Verb::Dump => not_built(alloc, Verb::Dump),
+        Verb::Dump => dump(alloc, root),
     }
 }

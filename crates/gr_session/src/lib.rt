@@ -4,8 +4,10 @@
 mod asked;
 mod checks;
 mod commands;
+mod faults;
 mod fixed;
 mod form;
+mod numbers;
 mod reply;
 mod session;
 mod solo;

@@ -1,13 +1,12 @@
 // The lines that replies are made of.
-ghost use Rattle.std.specs.Prelude.{◌≡◌, ◌++◌, IfOk, IsUtf8, OnOk, codes};
+ghost use Rattle.std.specs.Prelude.{◌≡◌, ◌++◌, ◌∷◌, IfOk, IsUtf8, OnOk, [], codes};
 ghost use Rattle.std.specs.Fmt.{decimal};
 ghost use Rattle.json.specs.Print.{quoted};
 ghost use Rattle.gr_session.specs.Inside.Body.{body_text};
-ghost use Rattle.gr_base.specs.Fault.{fault_named};
-ghost use Rattle.gr_base.specs.declared.fault.FaultKind.TheVariants.{NoSuchTable};
+ghost use Rattle.gr_values.specs.Shown.{bracketed};
 ghost use Rattle.gr_session.specs.ReplyText.{refusal_line, success_line, want_of_memory_line};
 
-use gr_base::{Bytes, Fault, FaultKind, NoMemory, fault_text};
+use gr_base::{Bytes, Fault, NoMemory, fault_text};
 use itoa::Buffer;
 use json::Writer;
 use std::alloc::Global;
@@ -30,6 +29,17 @@ pub(crate) fn success(alloc: Global, body: Body) -> Result<Bytes, NoMemory>
 {
     let line = begun(alloc, FRAME, b"[[0],")?;
     ended(alloc, line, body)
+}
+
+// The reply to a select that prints this block.
+pub(crate) fn success_with(alloc: Global, block: &Bytes) -> Result<Bytes, NoMemory>
+    ensures { IfOk result (λ text. text ≡ success_line (bracketed (block.now ∷ []))) }
+{
+    let room = block.as_slice().len().saturating_add(FRAME);
+    let mut line = begun(alloc, room, b"[[0],[")?;
+    line.extend_from_slice(block.as_slice())?;
+    line.extend_from_slice(b"]]\n")?;
+    Bytes::from_vec(alloc, line)
 }
 
 // The reply to a command for which no memory was found.
@@ -100,15 +110,4 @@ pub(crate) fn with_quoted(line: Vec<u8>, text: &str) -> Result<Vec<u8>, NoMemory
     let mut writer = Writer::new(line);
     writer.string(text)?;
     Ok(writer.into_inner())
-}
-
-// The fault of a command that names a table which is not there.
-pub(crate) fn no_table(alloc: Global, table: &str) -> Result<Fault, NoMemory>
-    ensures exact { IfOk result (λ fault. fault ≡ fault_named NoSuchTable table.now) }
-    ensures text { IfOk result (λ fault. IsUtf8 fault.name) }
-{
-    Ok(Fault::named(
-        FaultKind::NoSuchTable,
-        Bytes::from_slice(alloc, table.as_bytes())?,
-    ))
 }

@@ -6,17 +6,19 @@ ghost use Rattle.gr_cmdline.specs.Commands.{IsItem};
 ghost use Rattle.gr_session.specs.Entries.{entry_of};
 ghost use Rattle.gr_session.specs.Inside.Kept.{IsBetween, IsWaiting, seen};
 ghost use Rattle.gr_session.specs.Inside.Stepping.{IsFinished, Proceeds, Stops, taken_up};
-ghost use Rattle.gr_session.specs.Meaning.{body_after};
+ghost use Rattle.gr_session.specs.Meaning.{body_after, counts};
+ghost use Rattle.gr_session.specs.declared.form.Form.{Form};
 ghost use Rattle.gr_session.specs.ReplyText.{want_of_memory_line};
 ghost use Rattle.gr_session.specs.Step.{AnswersText, BeginsWith, GoesOn, IsCounted, answered_at, going_on, gone_on, opened_at, begun};
 ghost use Rattle.gr_session.specs.declared.session.Step.TheVariants.{Publish};
 
-use crate::form::Form;
+use crate::form::counts_rows;
 use crate::under_way::{Spare, UnderWay};
 use gr_base::{Bytes, Fault, Limits, NoMemory, SessionNo};
 use gr_cmdline::Item;
-use gr_model::{Change, Entry};
-use gr_publish::{Published, Root};
+use gr_db::{Change, Entry};
+use gr_publish::Published;
+use gr_root::Root;
 use std::alloc::Global;
 use std::marker::Model;
 use std::sync::Arc;
@@ -111,11 +113,11 @@ impl Session {
         ensures { BeginsWith self.old self.new (arc_value root.now) item result }
     {
         let at = root.journal().len();
-        let form = Form::of(&item);
+        let rows = counts_rows(&item);
         match self.read(alloc, root, item) {
             Ok(command) => self.go_on(alloc, command),
             Err(NoMemory) => {
-                let text = self.take_spare(form);
+                let text = self.take_spare(rows);
                 self.finish(at, at, text)
             }
         }
@@ -240,13 +242,13 @@ impl Session {
     }
 
     // Gives the reply to want of memory where nothing was made, with which the session ends.
-    fn take_spare(&mut self, form: Form) -> Bytes
+    fn take_spare(&mut self, rows: bool) -> Bytes
         requires { self.old.ended ≡ false }
-        ensures text { result ≡ want_of_memory_line (body_after form 0) }
+        ensures text { (form : Form) → counts form ≡ rows → result ≡ want_of_memory_line (body_after form 0) }
         ensures ended { self.new ≡ record self.old { ended = true } }
     {
         match self.spare.take() {
-            Some(spare) => spare.take(form),
+            Some(spare) => spare.take(rows),
             None => unreachable!(),
         }
     }

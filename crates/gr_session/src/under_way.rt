@@ -5,14 +5,15 @@ ghost use Rattle.gr_cmdline.specs.Commands.{IsItem};
 ghost use Rattle.gr_session.specs.Inside.Kept.{GoesOnWith, IsBetween, IsSpare, IsWaiting, meant, seen};
 ghost use Rattle.gr_session.specs.Step.{begun, made_at};
 ghost use Rattle.gr_session.specs.ReplyText.{want_of_memory_line};
-ghost use Rattle.gr_session.specs.Meaning.{body_after};
+ghost use Rattle.gr_session.specs.Meaning.{body_after, counts};
+ghost use Rattle.gr_session.specs.declared.form.Form.{Form};
 
 use crate::commands::asked_of;
 use crate::form::Form;
 use gr_base::{Bytes, Fault, NoMemory};
 use gr_cmdline::Item;
-use gr_model::Change;
-use gr_publish::Root;
+use gr_db::Change;
+use gr_root::Root;
 use std::alloc::Global;
 use std::mem;
 use std::sync::Arc;
@@ -36,25 +37,23 @@ impl Spare {
     }
 
     // The one of this form, lent.
-    pub(crate) fn of(&self, form: Form) -> &Bytes
+    pub(crate) fn of(&self, form: &Form) -> &Bytes
         requires { IsSpare self.now }
-        ensures { result.now ≡ want_of_memory_line (body_after form 0) }
+        ensures { result.now ≡ want_of_memory_line (body_after form.now 0) }
     {
-        match form {
-            Form::Plain => &self.plain,
-            Form::Counting => &self.counting,
+        if form.counts() {
+            &self.counting
+        } else {
+            &self.plain
         }
     }
 
-    // The one of this form.
-    pub(crate) fn take(self, form: Form) -> Bytes
+    // The one of a form that counts rows, or of one that does not.
+    pub(crate) fn take(self, rows: bool) -> Bytes
         requires { IsSpare self }
-        ensures { result ≡ want_of_memory_line (body_after form 0) }
+        ensures { (form : Form) → counts form ≡ rows → result ≡ want_of_memory_line (body_after form 0) }
     {
-        match form {
-            Form::Plain => self.plain,
-            Form::Counting => self.counting,
-        }
+        if rows { self.counting } else { self.plain }
     }
 }
 
@@ -90,8 +89,10 @@ impl UnderWay {
         ensures begun { IfOk result (λ command. seen command ≡ begun (arc_value root.now) item) }
     {
         let root = Arc::try_clone(root)?;
-        let form = Form::of(&item);
+        let form = Form::of(alloc, &item)?;
         let asked = asked_of(alloc, &root, &item)?;
+        let starved = spare.of(&form).try_clone()?;
+        let starved_then = spare.of(&form).try_clone()?;
         Ok(UnderWay {
             reached: root.journal().len(),
             root,
@@ -100,8 +101,8 @@ impl UnderWay {
             changes: asked.changes,
             answer: asked.answer,
             made: 0,
-            starved: spare.of(form).try_clone()?,
-            starved_then: spare.of(form).try_clone()?,
+            starved,
+            starved_then,
         })
     }
 

@@ -1,12 +1,15 @@
 -- What a session keeps of a command under way.
-use Rattle.std.specs.Prelude.{ℕ, ◌≡◌, ◌+◌, ◌<◌, ◌≤◌, ◌^◌, Option, Some, None, Result, Ok, Err, IfSome, List, ◌++◌, length, reverse, slice_get}
+use Rattle.std.specs.Prelude.{ℕ, ◌≡◌, ◌+◌, ◌<◌, ◌≤◌, ◌^◌, Option, Some, None, Result, Ok, Err, List, ◌++◌, length, reverse, slice_get}
 use Rattle.std.specs.List.{AllByRecursion}
 use Rattle.std.specs.Arc.{arc_value}
 use Rattle.gr_base.specs.declared.memory.NoMemory.{NoMemory}
-use Rattle.gr_model.specs.Db.{Db}
-use Rattle.gr_model.specs.Entry.{HoldsText, IsValid, replay}
-use Rattle.gr_model.specs.declared.entry.Change.{Change}
+use Rattle.gr_db.specs.Db.{Db}
+use Rattle.gr_root.specs.Root.{HoldsText}
+use Rattle.gr_db.specs.Entry.{IsValid}
+use Rattle.gr_db.specs.Apply.{replay}
+use Rattle.gr_db.specs.declared.entry.Change.{Change}
 use Rattle.gr_session.specs.Commands.{meaning_of}
+use Rattle.gr_session.specs.Inside.Forms.{IsLegible}
 use Rattle.gr_session.specs.Meaning.{Meaning, body_after, meaning_in}
 use Rattle.gr_session.specs.ReplyText.{want_of_memory_line}
 use Rattle.gr_session.specs.Step.{Going}
@@ -22,7 +25,7 @@ pub record IsSpare (spare : Spare) : Type 0 where
 
 -- a change that can be published at a database
 pub record Fits (db : Db) (change : Change) : Type 0 where
-  pub valid : IsValid db change
+  pub valid : IsValid db.schema change
   pub text : HoldsText change
 
 -- an item with this meaning asks for these changes, which can be published, and has this answer
@@ -49,6 +52,7 @@ pub record IsKept (command : UnderWay) (count : ℕ) : Type 0 where
   pub means : meant command ≡ meaning_in command.form (meant command).changes command.answer
   pub from : length (arc_value command.root).journal ≤ command.reached
   pub starved : command.starved ≡ want_of_memory_line (body_after command.form command.made)
+  pub legible : IsLegible command.form
 
 -- a command between two of its entries
 abbrev pub IsBetween : UnderWay → Type 0

@@ -1,5 +1,5 @@
 -- What the parts of a session's steps do.
-use Rattle.std.specs.Prelude.{ℕ, ◌≡◌, ◌-◌, ◌^◌, ◌<◌, Option, None, IfSome, List}
+use Rattle.std.specs.Prelude.{ℕ, ◌≡◌, ◌-◌, ◌^◌, ◌<◌, None, IfSome, List}
 use Rattle.gr_base.specs.declared.fault.Fault.{Fault}
 use Rattle.gr_session.specs.Inside.Kept.{IsSpare, IsWaiting}
 use Rattle.gr_session.specs.Step.{AsksNext, Ends, Going, HoldsAfterLast, HoldsWhereRefused, Standing, going_on}

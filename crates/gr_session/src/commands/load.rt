@@ -1,60 +1,64 @@
 // `load`: records that are put into a table, row by row.
-ghost use Rattle.std.specs.Prelude.{◌≡◌, ◌<◌, IfOk, IfSome, IsUtf8, length, map, reverse, None};
+ghost use Rattle.std.specs.Prelude.{◌≡◌, true, IfOk, IfSome, IsUtf8, Some, is_some, map, reverse};
 ghost use Rattle.std.specs.Fmt.{decimal};
-ghost use Rattle.gr_base.specs.Fault.{fault_named};
-ghost use Rattle.gr_base.specs.declared.fault.FaultKind.TheVariants.{NoSuchTable};
 ghost use Rattle.gr_cmdline.specs.Arguments.{AreTexts};
-ghost use Rattle.gr_load.specs.Rows.{keys_of};
-ghost use Rattle.gr_model.specs.Entry.{replay};
-ghost use Rattle.gr_model.specs.declared.entry.Change.TheVariants.{Put as PutChange};
+ghost use Rattle.gr_db.specs.Apply.{replay};
+ghost use Rattle.gr_db.specs.Db.{Db};
+ghost use Rattle.gr_schema.specs.Schema.{table_at};
+ghost use Rattle.gr_schema.specs.Wishes.{home_of};
+ghost use Rattle.gr_schema.specs.declared.definition.TableDef.{TableDef};
 ghost use Rattle.gr_session.specs.Inside.Kept.{Asks};
-ghost use Rattle.gr_session.specs.Load.{load, load_checks, load_into, load_of_rows, puts_of, rows_line, load_unless};
+ghost use Rattle.gr_session.specs.Load.{changes_of, load, load_at, rows_line};
 
 use crate::asked::{Asked, refused};
-use crate::checks::{Check, first_failed, never, text_of};
+use crate::checks::text_of;
+use crate::faults::fault_named;
 use crate::form::Form;
-use crate::reply::{Body, no_table, refusal, success};
-use gr_base::{Bytes, Fault, NoMemory, TableNo};
+use crate::reply::{Body, refusal, success};
+use gr_base::{Bytes, Fault, FaultKind, NoMemory, TableNo};
 use gr_cmdline::{Command, Param};
-use gr_load::{Puts, rows};
-use gr_model::Change;
-use gr_publish::Root;
+use gr_db::Change;
+use gr_root::Root;
+use gr_rows::{Puts, rows};
+use gr_schema::Schema;
 use std::alloc::Global;
 
 pub(crate) fn load(alloc: Global, root: &Root, command: &Command) -> Result<Asked, NoMemory>
     requires { AreTexts command.now.args }
     ensures { IfOk result (λ asked. let db = replay root.now.journal in Asks db (load db command.now) asked) }
 {
-    match first_failed(alloc, &load_checks(command))? {
-        Some(fault) => refused(alloc, Form::Counting, &fault),
-        None => load_values(
-            alloc,
-            root,
-            text_of(command, Param::Table),
-            text_of(command, Param::Values),
-        ),
-    }
-}
-
-fn load_checks(command: &Command) -> [Check; 1]
-    ensures { result ≡ load_checks command.now }
-{
-    [never(command, Param::Columns)]
-}
-
-// Load data for a table, which must be there.
-fn load_values(alloc: Global, root: &Root, table: &str, values: &str) -> Result<Asked, NoMemory>
-    ensures { IfOk result (λ asked. let db = replay root.now.journal in Asks db (load_unless None db table.now values.now) asked) }
-{
-    match root.table_number(table.as_bytes()) {
-        Some(number) => {
-            let rows = rows(alloc, values)?;
-            let answer = rows_answer(alloc, rows.puts.as_slice().len() as u64, &rows.fault)?;
-            let changes = puts_of(alloc, number, rows.puts)?;
-            Ok(Asked { changes, answer })
+    let name = text_of(command, Param::Table);
+    match root.schema().table(name.as_bytes()) {
+        Some(table) => load_into(alloc, root.schema(), table, command),
+        None => {
+            let fault = fault_named(alloc, FaultKind::NoSuchTable, name)?;
+            refused(alloc, &Form::Counting, &fault)
         }
-        None => refused(alloc, Form::Counting, &no_table(alloc, table)?),
     }
+}
+
+// Load data for a table that is there.
+fn load_into(
+    alloc: Global,
+    schema: &Schema,
+    table: TableNo,
+    command: &Command,
+) -> Result<Asked, NoMemory>
+    requires { is_some (table_at schema.now table) ≡ true }
+    ensures { (db : Db) (home : TableDef) → db.schema ≡ schema.now → table_at schema.now table ≡ Some home
+        → IfOk result (λ asked. Asks db (load_at db.schema (Some (home_of table home)) command.now) asked) }
+{
+    let columns = command.args.get(Param::Columns);
+    let rows = rows(
+        alloc,
+        schema,
+        table,
+        columns,
+        text_of(command, Param::Values),
+    )?;
+    let answer = rows_answer(alloc, rows.puts.as_slice().len() as u64, &rows.fault)?;
+    let changes = changes_of(alloc, table, rows.puts)?;
+    Ok(Asked { changes, answer })
 }
 
 // Success with the number of rows, or the fault of the row after them.
@@ -68,9 +72,9 @@ fn rows_answer(alloc: Global, count: u64, fault: &Option<Fault>) -> Result<Bytes
     }
 }
 
-// Records as changes of a table, the first one last.
-fn puts_of(alloc: Global, table: TableNo, puts: Puts) -> Result<Vec<Change>, NoMemory>
-    ensures { IfOk result (λ changes. reverse changes.items ≡ map (λ put. PutChange table put.key) puts) }
+// Puts as changes of a table, the first one last.
+fn changes_of(alloc: Global, table: TableNo, puts: Puts) -> Result<Vec<Change>, NoMemory>
+    ensures { IfOk result (λ changes. reverse changes.items ≡ changes_of table puts) }
 {
     let mut puts = puts.into_vec();
     let mut changes = Vec::with_capacity(alloc, puts.len())?;
@@ -78,6 +82,7 @@ fn puts_of(alloc: Global, table: TableNo, puts: Puts) -> Result<Vec<Change>, NoM
         changes.push(Change::Put {
             table,
             key: put.key,
+            settings: put.settings,
         })?;
     }
     Ok(changes)

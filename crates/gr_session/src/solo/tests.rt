@@ -181,25 +181,187 @@ fn a_wrong_fixed_parameter_is_told_before_all_else(rt: HostRuntime) -> Result<()
 
 #[test]
 fn what_is_not_built_is_told_by_name(rt: HostRuntime) -> Result<(), Fail> {
+    let cases = [(
+        "select T --limit 1 --sortby _key",
+        "[[16,\"BadValue sort_keys\"],false]\n",
+        0,
+        0,
+    )];
+    run(&rt, rt.alloc(), Limits::default(), &cases)
+}
+
+#[test]
+fn a_record_is_deleted_by_its_key_or_its_id(rt: HostRuntime) -> Result<(), Fail> {
     let cases = [
-        ("dump", "[[16,\"BadValue dump\"],false]\n", 0, 0),
+        ("table_create T TABLE_HASH_KEY UInt8", "[[0],true]\n", 0, 1),
+        ("load '[[7],[8]]' T _key", "[[0],2]\n", 1, 3),
+        ("delete T 007", "[[0],true]\n", 3, 4),
+        ("delete T 007", "[[26,\"NoSuchRecord 007\"],false]\n", 4, 4),
+        ("delete T --id 1", "[[26,\"NoSuchRecord 1\"],false]\n", 4, 4),
+        ("delete T 300", "[[17,\"OutOfRange key\"],false]\n", 4, 4),
+        ("delete T --id -0", "[[30,\"BadNumber id\"],false]\n", 4, 4),
+        ("delete T --id 2", "[[0],true]\n", 4, 5),
+        ("delete U x", "[[11,\"NoSuchTable U\"],false]\n", 5, 5),
+    ];
+    run(&rt, rt.alloc(), Limits::default(), &cases)
+}
+
+#[test]
+fn a_dump_gives_the_commands_that_make_the_database_again(rt: HostRuntime) -> Result<(), Fail> {
+    let cases = [
+        ("dump", "", 0, 0),
         (
-            "table_create T TABLE_PAT_KEY Int8",
-            "[[16,\"BadValue flags\"],false]\n",
+            "table_create P TABLE_HASH_KEY ShortText",
+            "[[0],true]\n",
             0,
-            0,
+            1,
         ),
         (
-            "load [] T --columns _key",
-            "[[16,\"BadValue columns\"],0]\n",
-            0,
-            0,
+            "column_create P friend COLUMN_SCALAR P",
+            "[[0],true]\n",
+            1,
+            2,
         ),
         (
-            "select T --limit 1 --sortby _key",
-            "[[16,\"BadValue sort_keys\"],false]\n",
+            "column_create P age COLUMN_SCALAR UInt8",
+            "[[0],true]\n",
+            2,
+            3,
+        ),
+        (
+            "load '[{\"_key\":\"a\",\"friend\":\"b\",\"age\":1},{\"_key\":\"c\",\"friend\":\"a\"}]' P",
+            "[[0],2]\n",
+            3,
+            5,
+        ),
+        ("delete P a", "[[0],true]\n", 5, 6),
+        (
+            "dump",
+            "table_create P TABLE_HASH_KEY ShortText\ncolumn_create P friend COLUMN_SCALAR P\ncolumn_create P age COLUMN_SCALAR UInt8\nload --table P\n[\n[\"_key\",\"age\"],\n[\"b\",0],\n[\"c\",0]\n]\nload --table P\n[\n[\"_key\",\"friend\"],\n[\"b\",\"\"],\n[\"c\",\"\"]\n]\n",
+            6,
+            6,
+        ),
+    ];
+    run(&rt, rt.alloc(), Limits::default(), &cases)
+}
+
+#[test]
+fn an_index_is_dumped_last(rt: HostRuntime) -> Result<(), Fail> {
+    let cases = [
+        (
+            "table_create W TABLE_PAT_KEY ShortText --default_tokenizer TokenBigram",
+            "[[0],true]\n",
             0,
+            1,
+        ),
+        ("table_create D TABLE_NO_KEY", "[[0],true]\n", 1, 2),
+        ("column_create D t COLUMN_SCALAR Text", "[[0],true]\n", 2, 3),
+        (
+            "column_create W i COLUMN_INDEX|WITH_POSITION|WITH_SECTION D t",
+            "[[0],true]\n",
+            3,
+            4,
+        ),
+        ("load [[\"ab\"]] D t", "[[0],1]\n", 4, 5),
+        (
+            "dump",
+            "table_create D TABLE_NO_KEY\ncolumn_create D t COLUMN_SCALAR Text\nload --table D\n[\n[\"t\"],\n[\"ab\"]\n]\ntable_create W TABLE_PAT_KEY ShortText --default_tokenizer TokenBigram\ncolumn_create W i COLUMN_INDEX|WITH_SECTION|WITH_POSITION D t\n",
+            5,
+            5,
+        ),
+    ];
+    run(&rt, rt.alloc(), Limits::default(), &cases)
+}
+
+#[test]
+fn a_window_and_columns_are_shown(rt: HostRuntime) -> Result<(), Fail> {
+    let cases = [
+        ("table_create T TABLE_NO_KEY", "[[0],true]\n", 0, 1),
+        ("load [{},{},{}] T", "[[0],3]\n", 1, 4),
+        (
+            "select T --output_columns '_score, _id' --offset -2 --limit 1",
+            "[[0],[[[3],[[\"_score\",\"Int32\"],[\"_id\",\"UInt32\"]],[1,2]]]]\n",
+            4,
+            4,
+        ),
+        (
+            "select T --limit x --offset 1.5",
+            "[[30,\"BadNumber offset\"],false]\n",
+            4,
+            4,
+        ),
+        (
+            "select T --output_columns _key --limit x",
+            "[[12,\"NoSuchColumn _key\"],false]\n",
+            4,
+            4,
+        ),
+    ];
+    run(&rt, rt.alloc(), Limits::default(), &cases)
+}
+
+#[test]
+fn columns_are_made_loaded_and_shown(rt: HostRuntime) -> Result<(), Fail> {
+    let cases = [
+        (
+            "table_create Site TABLE_PAT_KEY ShortText",
+            "[[0],true]\n",
             0,
+            1,
+        ),
+        (
+            "column_create Site title COLUMN_SCALAR ShortText",
+            "[[0],true]\n",
+            1,
+            2,
+        ),
+        (
+            "column_create Site link COLUMN_VECTOR Site",
+            "[[0],true]\n",
+            2,
+            3,
+        ),
+        (
+            "column_create Site link COLUMN_SCALAR Float",
+            "[[10,\"NameTaken link\"],false]\n",
+            3,
+            3,
+        ),
+        (
+            "load --table Site\n[[\"_key\",\"link\",\"title\"],[\"a\",[\"d\",\"a\"],\"b c\"],[\"e\",[],7]]",
+            "[[16,\"BadValue row 2 title\"],1]\n",
+            3,
+            4,
+        ),
+        (
+            "select Site",
+            "[[0],[[[2],[[\"_id\",\"UInt32\"],[\"_key\",\"ShortText\"],[\"title\",\"ShortText\"],[\"link\",\"Site\"]],[1,\"a\",\"b c\",[\"d\",\"a\"]],[2,\"d\",\"\",[]]]]]\n",
+            4,
+            4,
+        ),
+    ];
+    run(&rt, rt.alloc(), Limits::default(), &cases)
+}
+
+#[test]
+fn a_lexicon_takes_the_tokens_of_texts_and_no_load(rt: HostRuntime) -> Result<(), Fail> {
+    let cases = [
+        ("table_create D TABLE_NO_KEY", "[[0],true]\n", 0, 1),
+        ("column_create D t COLUMN_SCALAR Text", "[[0],true]\n", 1, 2),
+        (
+            "table_create W TABLE_HASH_KEY ShortText --default_tokenizer TokenDelimit",
+            "[[0],true]\n",
+            2,
+            3,
+        ),
+        ("column_create W i COLUMN_INDEX D t", "[[0],true]\n", 3, 4),
+        ("load '[[\"a b\"],[\"b\"]]' D t", "[[0],2]\n", 4, 6),
+        ("load [] W", "[[25,\"LexiconReadOnly W\"],0]\n", 6, 6),
+        (
+            "select W",
+            "[[0],[[[2],[[\"_id\",\"UInt32\"],[\"_key\",\"ShortText\"]],[1,\"a\"],[2,\"b\"]]]]\n",
+            6,
+            6,
         ),
     ];
     run(&rt, rt.alloc(), Limits::default(), &cases)
@@ -251,6 +413,102 @@ fn a_full_table_stops_a_load(rt: HostRuntime) -> Result<(), Fail> {
         ),
     ];
     run(&rt, rt.alloc(), limits, &cases)
+}
+
+#[test]
+fn a_full_table_of_those_that_a_row_adds_to_is_told(rt: HostRuntime) -> Result<(), Fail> {
+    let limits = Limits {
+        records: 2,
+        ..Limits::default()
+    };
+    let cases = [
+        (
+            "table_create G TABLE_HASH_KEY ShortText",
+            "[[0],true]\n",
+            0,
+            1,
+        ),
+        (
+            "table_create D TABLE_HASH_KEY ShortText",
+            "[[0],true]\n",
+            1,
+            2,
+        ),
+        ("column_create D g COLUMN_SCALAR G", "[[0],true]\n", 2, 3),
+        ("column_create D t COLUMN_SCALAR Text", "[[0],true]\n", 3, 4),
+        (
+            "table_create W TABLE_PAT_KEY ShortText --default_tokenizer TokenDelimit",
+            "[[0],true]\n",
+            4,
+            5,
+        ),
+        ("column_create W i COLUMN_INDEX D t", "[[0],true]\n", 5, 6),
+        (
+            "load '[{\"_key\":\"a\",\"g\":\"x\"},{\"_key\":\"b\",\"g\":\"y\"},{\"_key\":\"b\",\"g\":\"z\"}]' D",
+            "[[34,\"TableFull row 3 G\"],2]\n",
+            6,
+            8,
+        ),
+        (
+            "load '[{\"_key\":\"a\",\"t\":\"p q\"},{\"_key\":\"a\",\"t\":\"r\"}]' D",
+            "[[34,\"TableFull row 2 W\"],1]\n",
+            8,
+            9,
+        ),
+        (
+            "load '[{\"_key\":\"c\"}]' D",
+            "[[34,\"TableFull row 1 D\"],0]\n",
+            9,
+            9,
+        ),
+        (
+            "select W",
+            "[[0],[[[2],[[\"_id\",\"UInt32\"],[\"_key\",\"ShortText\"]],[1,\"p\"],[2,\"q\"]]]]\n",
+            9,
+            9,
+        ),
+    ];
+    run(&rt, rt.alloc(), limits, &cases)
+}
+
+#[test]
+fn what_a_row_does_not_give_stays_and_ids_are_given_once(rt: HostRuntime) -> Result<(), Fail> {
+    let cases = [
+        ("table_create T TABLE_PAT_KEY Int8", "[[0],true]\n", 0, 1),
+        (
+            "column_create T a COLUMN_SCALAR UInt8",
+            "[[0],true]\n",
+            1,
+            2,
+        ),
+        (
+            "column_create T b COLUMN_VECTOR Int64",
+            "[[0],true]\n",
+            2,
+            3,
+        ),
+        (
+            "load '[{\"_key\":-1,\"a\":7,\"b\":[1,2]},{\"_key\":-1,\"b\":[]},{\"_key\":5}]' T",
+            "[[0],3]\n",
+            3,
+            6,
+        ),
+        (
+            "select T --output_columns _id,a,b --limit 1",
+            "[[0],[[[2],[[\"_id\",\"UInt32\"],[\"a\",\"UInt8\"],[\"b\",\"Int64\"]],[1,7,[]]]]]\n",
+            6,
+            6,
+        ),
+        ("delete T -1", "[[0],true]\n", 6, 7),
+        ("load [[-1]] T _key", "[[0],1]\n", 7, 8),
+        (
+            "select T --output_columns _id,_key",
+            "[[0],[[[2],[[\"_id\",\"UInt32\"],[\"_key\",\"Int8\"]],[2,5],[3,-1]]]]\n",
+            8,
+            8,
+        ),
+    ];
+    run(&rt, rt.alloc(), Limits::default(), &cases)
 }
 
 #[test]

@@ -1,17 +1,39 @@
-use Rattle.std.proofs.Common.{◌≡◌, Some, sym, ap, ◌∙◌}
-use Rattle.gr_cmdline.specs.declared.param.Param.TheVariants.{Table, Values}
-use Rattle.gr_model.specs.Entry.{replay}
-use Rattle.gr_session.specs.Checks.{first_failed, text_of}
-use Rattle.gr_session.specs.Load.{load, load_checks, load_unless}
+use Rattle.std.proofs.Common.{refl, ◌≡◌, Some, None, sym, ap, ◌∙◌}
+use Rattle.gr_cmdline.specs.declared.param.Param.TheVariants.{Table}
+use Rattle.gr_db.specs.Apply.{replay}
+use Rattle.gr_schema.specs.Schema.{table_named}
+use Rattle.gr_schema.specs.Wishes.{home_of}
+use Rattle.gr_session.specs.Checks.{text_of}
+use Rattle.gr_session.specs.Load.{load, load_at}
 use Rattle.gr_session.specs.Meaning.{refused_in}
 use Rattle.gr_session.specs.declared.form.Form.TheVariants.{Counting}
+use Rattle.gr_session.proofs.HomeLemmas.{named-at, named-nowhere, some-from, there}
 use Rattle.gr_session.proofs.MeaningLemmas.{Asks-same}
 use Rattle.gr_session.proofs.commands.load.load.Goals as goal
+
+pub load_into-requires : goal.load_into-requires
+load_into-requires c =
+    let schema = (replay c.args.root.now.journal).schema in
+    let name = text_of c.args.command.now Table in
+    let found : table_named schema name ≡ Some c.in-Some.table = sym (rw (c.schema.ensures.exact, c.as_bytes.ensures.value, c.text_of-name.ensures) at c.in-Some.ensures) in
+    rw c.schema-in-Some.ensures.exact (there schema name c.in-Some.table found)
 
 pub returns-in-Some : goal.returns-in-Some
 returns-in-Some c =
     let db = replay c.args.root.now.journal in
     let command = c.args.command.now in
-    let failed : Some c.in-Some.fault ≡ first_failed (load_checks command) = sym c.in-Some.is ∙ c.in_ok-fault.ensures.exact ∙ ap first_failed c.load_checks.ensures in
-    Asks-same db (refused_in Counting c.in-Some.fault) (load db command) c.refused.result (c.refused.ensures db)
-    (ap (λ fault. load_unless fault db (text_of command Table) (text_of command Values)) failed)
+    let name = text_of command Table in
+    let found : table_named db.schema name ≡ Some c.in-Some.table = sym (rw (c.schema.ensures.exact, c.as_bytes.ensures.value, c.text_of-name.ensures) at c.in-Some.ensures) in
+    let at = some-from _ (there db.schema name c.in-Some.table found) in
+    Asks-same db (load_at db.schema (Some (home_of c.in-Some.table at.0)) command) (load db command) c.load_into.result
+    (c.load_into.ensures db at.0 (sym c.schema-in-Some.ensures.exact) (rw c.schema-in-Some.ensures.exact at.1))
+    (ap (λ home. load_at db.schema home command) (sym (named-at db.schema name c.in-Some.table at.0 found at.1)))
+
+pub returns-in_ok-fault-in-None : goal.returns-in_ok-fault-in-None
+returns-in_ok-fault-in-None c =
+    let db = replay c.args.root.now.journal in
+    let command = c.args.command.now in
+    let name = text_of command Table in
+    let missing : table_named db.schema name ≡ None = sym (rw (c.schema.ensures.exact, c.as_bytes.ensures.value, c.text_of-name.ensures) at c.in-None.ensures) in
+    Asks-same db (refused_in Counting c.in_ok-fault-in-None.fault) (load db command) c.refused.result (c.refused.ensures db Counting refl)
+    (ap (refused_in Counting) (rw c.text_of-name.ensures at c.in_ok-fault-in-None.ensures.exact) ∙ ap (λ home. load_at db.schema home command) (sym (named-nowhere db.schema name missing)))

@@ -1,20 +1,14 @@
-use Rattle.std.proofs.Common.{◌≡◌, Some, None, sym, ap, ◌∙◌}
-use Rattle.gr_session.specs.Checks.{first_failed}
-use Rattle.gr_session.specs.Meaning.{refused_in}
-use Rattle.gr_session.specs.TableCreate.{creation_unless, table_create, table_create_checks, wish_of}
+use Rattle.std.proofs.Common.{ap, codes, ◌∷◌, []}
+use Rattle.gr_db.specs.declared.entry.Change.TheVariants.{CreateTable}
+use Rattle.gr_session.specs.Meaning.{meaning_in}
+use Rattle.gr_session.specs.ReplyText.{success_line}
+use Rattle.gr_session.specs.TableCreate.{table_create}
 use Rattle.gr_session.specs.declared.form.Form.TheVariants.{Plain}
 use Rattle.gr_session.proofs.MeaningLemmas.{Asks-same}
 use Rattle.gr_session.proofs.commands.table_create.table_create.Goals as goal
 
-pub returns-in-Some : goal.returns-in-Some
-returns-in-Some c =
-    let command = c.args.command.now in
-    let failed : Some c.in-Some.fault ≡ first_failed (table_create_checks command) = sym c.in-Some.is ∙ c.in_ok-fault.ensures.exact ∙ ap first_failed c.table_create_checks.ensures in
-    λ db. Asks-same db (refused_in Plain c.in-Some.fault) (table_create command) c.refused.result (c.refused.ensures db) (ap (λ fault. creation_unless fault (wish_of command)) failed)
-
-pub returns-in_ok-wish_of-in-None : goal.returns-in_ok-wish_of-in-None
-returns-in_ok-wish_of-in-None c =
-    let command = c.args.command.now in
-    let none : None ≡ first_failed (table_create_checks command) = sym c.in-None.is ∙ c.in_ok-fault.ensures.exact ∙ ap first_failed c.table_create_checks.ensures in
-    λ db. Asks-same db (creation_unless None c.in_ok-wish_of-in-None.field-0) (table_create command) c.creation.result (c.creation.ensures db)
-    (ap (creation_unless None) c.in_ok-wish_of-in-None.ensures.exact ∙ ap (λ fault. creation_unless fault (wish_of command)) none)
+pub returns : goal.returns
+returns c =
+    let wish = c.in_ok-table_wish.field-0 in
+    λ db. Asks-same db (meaning_in Plain (CreateTable wish ∷ []) (success_line (codes "true"))) (table_create c.args.command.now) c.one_change.result (c.one_change.ensures db Plain (record { valid = tt; text = c.in_ok-table_wish.ensures.text }))
+    (ap (λ wish. meaning_in Plain (CreateTable wish ∷ []) (success_line (codes "true"))) c.in_ok-table_wish.ensures.exact)

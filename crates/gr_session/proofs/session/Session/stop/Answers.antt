@@ -1,5 +1,4 @@
 use Rattle.std.proofs.Common.{◌≡◌, ap, arith, refl, sym, ◌∙◌}
-use Rattle.std.specs.Arc.{arc_value}
 use Rattle.gr_session.specs.Inside.Kept.{meant, seen}
 use Rattle.gr_session.specs.Meaning.{Meaning}
 use Rattle.gr_session.proofs.EndsLemmas.{Stops-starved, Stops-told}

@@ -1,6 +1,6 @@
-use Rattle.std.proofs.Common.{◌≡◌, ◌≤◌, ◌<◌, ◌^◌, length, refl, rules, arith, ◌∙◌}
+use Rattle.std.proofs.Common.{◌≡◌, ◌<◌, ◌^◌, length, refl, rules, arith, ◌∙◌}
 use Rattle.std.specs.Arc.{arc_value}
-use Rattle.gr_model.specs.Entry.{replay}
+use Rattle.gr_db.specs.Apply.{replay}
 use Rattle.gr_session.specs.Commands.{meaning_of}
 use Rattle.gr_session.specs.Inside.Kept.{Asks}
 use Rattle.gr_session.proofs.KeptLemmas.{IsKept-begun}
@@ -12,4 +12,4 @@ returns-clause-between c =
     let asks : Asks (replay journal) (meaning_of (replay journal) c.args.item) c.in_ok-asked.asked = rw c.deref.ensures at c.in_ok-asked.ensures in
     let few : length c.in_ok-asked.asked.changes.items < 2 ^ 64 = search rules in
     let reached : c.len.result ≡ length journal = search rules in
-    IsKept-begun _ c.in_ok-asked.asked asks refl refl few c.of-form.ensures (omega arith) refl (c.in_ok-try_clone.ensures ∙ c.of.ensures)
+    IsKept-begun _ c.in_ok-asked.asked asks refl refl few c.in_ok-form.ensures.exact (omega arith) refl (c.in_ok-starved.ensures ∙ c.of-2.ensures) c.in_ok-form.ensures.legible

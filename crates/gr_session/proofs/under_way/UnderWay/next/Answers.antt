@@ -1,6 +1,6 @@
 use Rattle.std.proofs.Common.{refl}
 use Rattle.std.specs.Arc.{arc_value}
-use Rattle.gr_model.specs.Entry.{replay}
+use Rattle.gr_db.specs.Apply.{replay}
 use Rattle.gr_session.specs.Inside.Kept.{Fits, meant}
 use Rattle.gr_session.proofs.HoldsLemmas.{Holds-fit, Holds-next, Holds-pop}
 use Rattle.gr_session.proofs.under_way.UnderWay.next.Goals as goal
@@ -22,6 +22,7 @@ returns-in_ok-self-in-Some c =
           means = c.requires.means;
           from = c.requires.from;
           starved = c.requires.starved;
+          legible = c.requires.legible;
         };
         then_starved = c.in_ok-self-in-Some.ensures;
       };

@@ -1,0 +1,10 @@
+mod Arguments
+mod Arms
+mod Cutting
+mod Numbers
+mod Fitting
+mod Levels
+mod Opening
+mod Ranges
+mod Rows
+mod Telling

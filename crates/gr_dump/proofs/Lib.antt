@@ -1,0 +1,6 @@
+mod ColumnLemmas
+mod EachLemmas
+mod HeadLemmas
+mod IndexLemmas
+mod LoadLemmas
+mod TableLemmas

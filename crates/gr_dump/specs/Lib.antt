@@ -1,0 +1,4 @@
+pub mod Words
+pub mod Loads
+pub mod Dump
+pub mod Inside

@@ -1,0 +1,9 @@
+mod CountLemmas
+mod CursorLemmas
+mod GallopLemmas
+mod HitLemmas
+mod MergeLemmas
+mod PartsLemmas
+mod PlaceLemmas
+mod SameLemmas
+mod SumLemmas

@@ -1,0 +1,30 @@
+use Rattle.std.proofs.Common.{ℕ, ◌≡◌, ◌<◌, ◌⊎◌, inl, inr, [], get_or, drop, leb, length, arith}
+use Rattle.std.proofs.lemmas.List.{drop_all}
+use Rattle.gr_hits.proofs.HitLemmas.{hits-drop}
+use Rattle.gr_hits.proofs.MergeLemmas.{without-step, without-ended, step_most, less_steps_left}
+use Rattle.gr_hits.proofs.SumLemmas.{no_hit}
+use Rattle.gr_hits.proofs.difference.merge_without.Goals as goal
+use Rattle.gr_hits.proofs.difference.merge_without.Goals.{then-merge-test+else-j-right, else-merge-test}
+
+pub merge-preserved : goal.merge-preserved
+merge-preserved c =
+    let a : ℕ = (get_or c.args.left.now c.merge.i no_hit).0.0 in
+    let b : ℕ = (get_or c.args.right.now c.merge.j no_hit).0.0 in
+    let room : c.merge.made < length c.merge.hits = omega arith in
+    record {
+      left = omega (arith, c.one_if-i.ensures, step_most (leb a b));
+      right = omega (arith, c.one_if-j.ensures, step_most (leb b a));
+      room = omega (arith, c.one_if-made.ensures, c.one_if-i.ensures, less_steps_left a b);
+      sums = rw (c.one_if-i.ensures, c.one_if-j.ensures, c.one_if-made.ensures)
+          (without-step c.args.left.now c.args.right.now c.requires.left c.requires.right c.merge.hits c.merge.made c.merge.i c.merge.j no_hit c.merge-test.true c.if-j-right.true room c.merge.invariant.sums);
+    }
+
+pub returns : goal.returns
+returns c =
+    let left = c.args.left.now in
+    let right = c.args.right.now in
+    let end : (drop c.merge.i left ≡ []) ⊎ (drop c.merge.j right ≡ []) = elim c.merge-test.branch [
+      | then-merge-test+else-j-right w ↦ inr (drop_all c.merge.j right w.if-j-right.false)
+      | else-merge-test w ↦ inl (drop_all c.merge.i left w.merge-test.false)
+    ] in
+    rw (c.write_hits.ensures.exact, c.split_at.ensures.back) (c.merge.invariant.sums (drop c.merge.i left) (without-ended (drop c.merge.i left) (drop c.merge.j right) (hits-drop c.merge.i left c.requires.left) end))

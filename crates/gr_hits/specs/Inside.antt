@@ -1,0 +1,4 @@
+pub mod Counts
+pub mod Cursors
+pub mod Parts
+pub mod Sums

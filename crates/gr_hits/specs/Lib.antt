@@ -1,0 +1,3 @@
+pub mod Hits
+pub mod Inside
+pub mod Places

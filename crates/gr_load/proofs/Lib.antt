@@ -1,3 +1,0 @@
-pub mod CommaLemmas
-pub mod KeysLemmas
-pub mod MembersLemmas

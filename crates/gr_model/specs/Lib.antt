@@ -1,4 +1,0 @@
-pub mod Accepted
-pub mod Db
-pub mod Entry
-pub mod Schema

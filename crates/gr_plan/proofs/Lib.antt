@@ -1,0 +1,4 @@
+mod FitsLemmas
+mod MarkLemmas
+mod ScanLemmas
+mod ScoreLemmas

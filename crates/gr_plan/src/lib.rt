@@ -1,0 +1,8 @@
+// The records that a condition finds.
+#![tactic(auto)]
+
+mod scan;
+#[cfg(test)]
+mod tests;
+
+pub use scan::hits;

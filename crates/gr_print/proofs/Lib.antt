@@ -1,0 +1,9 @@
+mod BlockLemmas
+mod DataLemmas
+mod EndLemmas
+mod LegibleLemmas
+mod ListedLemmas
+mod NamedLemmas
+mod PrintLemmas
+mod RowsLemmas
+mod WrittenLemmas

@@ -1,0 +1,5 @@
+use Rattle.gr_values.proofs.Written.{Appends-more}
+use Rattle.gr_print.proofs.printing.write_found.Goals as goal
+
+pub returns : goal.returns
+returns c = Appends-more c.in_ok-open_array.ensures (Appends-more c.in_ok-write_count.ensures c.in_ok-close_array.ensures)

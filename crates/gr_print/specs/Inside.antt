@@ -1,0 +1,4 @@
+pub mod Ends
+pub mod Legible
+pub mod Named
+pub mod Tokens

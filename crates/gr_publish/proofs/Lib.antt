@@ -1,5 +1,0 @@
-pub mod AcceptedLemmas
-pub mod ReplayLemmas
-pub mod RowsLemmas
-pub mod SoundLemmas
-pub mod TextsLemmas
