@@ -4,7 +4,7 @@ ghost use Rattle.gr_print.specs.Columns.{from_first, trimmed, up_to_last};
 ghost use Rattle.gr_print.specs.Inside.Ends.{IsAfterWhite, IsBeforeWhite};
 
 /// A text without the white space at its ends.
-pub(crate) fn trimmed(text: &str) -> &str
+pub fn trimmed(text: &str) -> &str
     ensures { result.now ≡ trimmed text.now }
 {
     from_first(up_to_last(text))

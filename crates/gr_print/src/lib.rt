@@ -14,6 +14,7 @@ mod span;
 mod tests;
 mod values;
 
+pub use ends::trimmed;
 pub use headings::type_name;
 pub use out_column::{OutColumn, OutColumns, OutItem, columns};
 pub use printing::block;

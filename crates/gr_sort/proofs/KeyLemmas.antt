@@ -1,0 +1,123 @@
+-- Keys that texts write, taken one after the other.
+use Rattle.std.proofs.Common.{◌≡◌, ◌≢◌, ℕ, ◌+◌, ◌<◌, ◌≤◌, ◌==◌, not, Bool, true, false, cond, List, [], ◌∷◌, ◌++◌, length, map, filter, drop, get_or, Result, Ok, Err, append_assoc, append-nil, refl, sym, ap, subst, ◌∙◌}
+use Rattle.std.proofs.lemmas.List.{drop_all, drop_more}
+use Rattle.std.specs.List.{AllByRecursion}
+use Rattle.gr_base.specs.Failure.{Answers, result_map, result_then}
+use Rattle.gr_base.specs.declared.failure.Failure.{Failure}
+use Rattle.gr_base.specs.declared.failure.Failure.TheVariants.{NoMemory, Refused}
+use Rattle.gr_base.specs.declared.fault.Fault.{Fault}
+use Rattle.gr_base.specs.declared.numbers.TableNo.{TableNo}
+use Rattle.gr_print.specs.Columns.{trimmed}
+use Rattle.gr_schema.specs.Schema.{SchemaDef}
+use Rattle.gr_sort.specs.Inside.Named.{Adds, AreSortable, IsSortableItem}
+use Rattle.gr_sort.specs.Keys.{IsSortable, key_by, key_of, keys_of}
+use Rattle.gr_sort.specs.declared.keys.SortKey.{SortKey}
+
+-- what is meant by more is meant by all
+map_map : (before : List SortKey) (key : SortKey) (others : Result (List SortKey) Fault)
+    → result_map (λ more. before ++ more) (result_map (λ more. key ∷ more) others) ≡ result_map (λ more. (before ++ key ∷ []) ++ more) others
+map_map before key (Ok more) = ap Ok (sym (append_assoc before (key ∷ []) more))
+map_map before key (Err why) = refl
+
+map_nil : (others : Result (List SortKey) Fault) → result_map (λ more. [] ++ more) others ≡ others
+map_nil (Ok more) = refl
+map_nil (Err why) = refl
+
+-- the texts of pieces, of which empty ones are dropped
+abbrev pub given : List (List ℕ) → List (List ℕ)
+given texts = filter (λ item. not (length item == 0)) texts
+
+-- the first of texts that may be left out
+filter-first : (keep : List ℕ → Bool) (x : List ℕ) (xs : List (List ℕ)) → filter keep (x ∷ xs) ≡ filter keep (x ∷ []) ++ filter keep xs
+filter-first keep x xs = elim (keep x) as (λ b. cond b (x ∷ filter keep xs) (filter keep xs) ≡ cond b (x ∷ []) [] ++ filter keep xs) [ true ↦ refl | false ↦ refl ]
+
+given-first : (parts : List (List ℕ)) (n : ℕ) (item : List ℕ) → n < length parts → item ≡ get_or parts n item
+    → given (map trimmed (drop n parts)) ≡ given (trimmed item ∷ []) ++ given (map trimmed (drop (n + 1) parts))
+given-first parts n item here is =
+    ap (λ xs. given (map trimmed xs)) (drop_more parts n item here ∙ ap (λ x. x ∷ drop (n + 1) parts) (sym is))
+    ∙ filter-first (λ item. not (length item == 0)) (trimmed item) (map trimmed (drop (n + 1) parts))
+
+module _ (schema : SchemaDef) (table : TableNo) where
+  -- what is meant by keys so far and those of texts
+  abbrev pub total : List SortKey → List (List ℕ) → Result (List SortKey) Fault
+  total before texts = result_map (λ more. before ++ more) (keys_of schema table texts)
+
+  -- texts, and then others
+  of-then : (before : List SortKey) (first others : List (List ℕ)) → total before (first ++ others) ≡ result_then (λ mid. total mid others) (total before first)
+  of-then before [] others = ap (λ mid. total mid others) (sym (append-nil before))
+  of-then before (text ∷ texts) others = go (λ mid. of-then mid texts others) (key_of schema table text)
+    where
+      go : ((mid : List SortKey) → total mid (texts ++ others) ≡ result_then (λ mid. total mid others) (total mid texts)) → (written : Result SortKey Fault)
+          → result_map (λ more. before ++ more) (result_then (λ key. result_map (λ more. key ∷ more) (keys_of schema table (texts ++ others))) written)
+          ≡ result_then (λ mid. total mid others) (result_map (λ more. before ++ more) (result_then (λ key. result_map (λ more. key ∷ more) (keys_of schema table texts)) written))
+      go more (Ok key) =
+          map_map before key (keys_of schema table (texts ++ others)) ∙ more (before ++ key ∷ [])
+          ∙ ap (result_then (λ mid. total mid others)) (sym (map_map before key (keys_of schema table texts)))
+      go more (Err why) = refl
+
+  -- after texts that were taken others are left
+  total-then : (before mid : List SortKey) (first others : List (List ℕ)) → Adds schema table before first (Ok mid) → total before (first ++ others) ≡ total mid others
+  total-then before mid first others adds = of-then before first others ∙ ap (result_then (λ mid. total mid others)) (adds.found mid refl)
+
+  -- texts that are refused are refused with others after them
+  Adds-stops : (before : List SortKey) (first others : List (List ℕ)) (why : Failure Fault) → Adds schema table before first (Err why) → Adds schema table before (first ++ others) (Err why)
+  Adds-stops before first others (Refused fault) adds = record {
+    found = λ value e. absurd (cc);
+    refused = λ other e. of-then before first others ∙ ap (result_then (λ mid. total mid others)) (adds.refused other e);
+  }
+  Adds-stops before first others NoMemory adds = record { found = λ value e. absurd (cc); refused = λ other e. absurd (cc) }
+
+  -- no texts
+  Adds-none : (before : List SortKey) → Adds schema table before [] (Ok before)
+  Adds-none before = record { found = λ value e. ap Ok (append-nil before) ∙ cc; refused = λ why e. absurd (cc) }
+
+  -- one text
+  pub Adds-one : (before : List SortKey) (text : List ℕ) (key : SortKey) → key_of schema table text ≡ Ok key → Adds schema table before (text ∷ []) (Ok (before ++ key ∷ []))
+  Adds-one before text key is = record {
+    found = λ value e. ap (λ r. result_map (λ more. before ++ more) (result_then (λ key. result_map (λ others. key ∷ others) (keys_of schema table [])) r)) is ∙ cc;
+    refused = λ why e. absurd (cc);
+  }
+
+  pub Adds-refused : (before : List SortKey) (text : List ℕ) (why : Failure Fault) → ((fault : Fault) → why ≡ Refused fault → key_of schema table text ≡ Err fault)
+      → Adds schema table before (text ∷ []) (Err why)
+  Adds-refused before text why is = record {
+    found = λ value e. absurd (cc);
+    refused = λ fault e. ap (λ r. result_map (λ more. before ++ more) (result_then (λ key. result_map (λ others. key ∷ others) (keys_of schema table [])) r)) (is fault cc);
+  }
+
+  -- what is added to nothing
+  pub Adds-all : (texts : List (List ℕ)) (result : Result (List SortKey) (Failure Fault)) → Adds schema table [] texts result → Answers result (keys_of schema table texts)
+  Adds-all texts result adds = subst (λ meant. Answers result meant) (map_nil (keys_of schema table texts)) adds
+
+module _ (schema : SchemaDef) (table : TableNo) (all : List (List ℕ)) (parts : List (List ℕ)) (n : ℕ) (before : List SortKey)
+    (taken : total schema table [] all ≡ total schema table before (given (map trimmed (drop n parts)))) where
+  -- a text that is refused
+  pub taken-stops : (item : List ℕ) (why : Failure Fault) → n < length parts → item ≡ get_or parts n item → Adds schema table before (given (trimmed item ∷ [])) (Err why)
+      → Adds schema table [] all (Err why)
+  taken-stops item why here is stops =
+      subst (λ meant. Answers (Err why) meant) (sym (taken ∙ ap (total schema table before) (given-first parts n item here is)))
+      (Adds-stops schema table before (given (trimmed item ∷ [])) (given (map trimmed (drop (n + 1) parts))) why stops)
+
+  -- a text that is taken
+  pub taken-more : (item : List ℕ) (mid : List SortKey) → n < length parts → item ≡ get_or parts n item → Adds schema table before (given (trimmed item ∷ [])) (Ok mid)
+      → total schema table [] all ≡ total schema table mid (given (map trimmed (drop (n + 1) parts)))
+  taken-more item mid here is adds =
+      taken ∙ ap (total schema table before) (given-first parts n item here is)
+      ∙ total-then schema table before mid (given (trimmed item ∷ [])) (given (map trimmed (drop (n + 1) parts))) adds
+
+  -- no text is left
+  pub taken-all : length parts ≤ n → Adds schema table [] all (Ok before)
+  taken-all end =
+      subst (λ meant. Answers (Ok before) meant) (sym (taken ∙ ap (λ xs. total schema table before (given (map trimmed xs))) (drop_all n parts end))) (Adds-none schema table before)
+
+-- keys that can sort, and one more
+AllByRecursion-push : {X : Type 0} (P : X → Type 0) (xs : List X) (x : X) → AllByRecursion P xs → P x → AllByRecursion P (xs ++ x ∷ [])
+AllByRecursion-push P [] x all one = (one, tt)
+AllByRecursion-push P (y ∷ ys) x all one = (all.0, AllByRecursion-push P ys x all.1 one)
+
+pub AreSortable-none : (schema : SchemaDef) → AreSortable schema []
+AreSortable-none schema db same fits = tt
+
+pub AreSortable-more : (schema : SchemaDef) (keys : List SortKey) (key : SortKey) → AreSortable schema keys → IsSortableItem schema key.item → AreSortable schema (keys ++ key ∷ [])
+AreSortable-more schema keys key all one db same fits =
+    AllByRecursion-push (IsSortable db.tables) keys key (all db same fits) (record { fits = one.fits db same fits; single = one.single })

@@ -1,0 +1,6 @@
+mod KeptLemmas
+mod KeyLemmas
+mod OrderLemmas
+mod RowLemmas
+mod TotalLemmas
+mod WindowLemmas

@@ -1,0 +1,16 @@
+// Sort keys, and hits in their order.
+#![tactic(auto)]
+
+mod collect;
+mod compare;
+mod keys;
+mod law;
+mod row;
+mod sorting;
+#[cfg(test)]
+mod tests;
+mod value;
+
+pub use keys::{SortKey, SortOrder, order};
+pub use law::order_keeps_and_sorts;
+pub use sorting::sorted;
