@@ -35,11 +35,13 @@ is_descending (c ∷ cs) = c == byte "-"
 abbrev pub path_item : List ℕ → Path → Result OutItem Fault
 path_item name path = if path.shape.list then Err (fault_named BadSortKey name) else Ok (At path)
 
+-- the path to one value that a name writes
+abbrev pub path_named : SchemaDef → TableNo → List ℕ → Result OutItem Fault
+path_named schema table name = result_then (path_item name) (ok_or (path_of schema table name) (fault_named NoSuchColumn name))
+
 -- what a name stands for: the score, or what stands at a path
 abbrev pub item_named : SchemaDef → TableNo → List ℕ → Result OutItem Fault
-item_named schema table name =
-    if bytes_eq score_name name then Ok Score
-    else result_then (path_item name) (ok_or (path_of schema table name) (fault_named NoSuchColumn name))
+item_named schema table name = if bytes_eq score_name name then Ok Score else path_named schema table name
 
 -- a key that goes by this
 abbrev pub key_by : Bool → OutItem → SortKey

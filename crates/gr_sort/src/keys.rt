@@ -8,7 +8,7 @@ ghost use Rattle.gr_print.specs.Columns.{listed};
 ghost use Rattle.gr_schema.specs.Schema.{table_at};
 ghost use Rattle.gr_schema.specs.Wishes.{IsTold};
 ghost use Rattle.gr_sort.specs.Inside.Named.{Adds, AreSortable, IsSortableItem};
-ghost use Rattle.gr_sort.specs.Keys.{IsSortable, is_descending, item_named, order, unsigned};
+ghost use Rattle.gr_sort.specs.Keys.{IsSortable, is_descending, item_named, key_of, order, path_named, unsigned};
 
 use gr_base::{Bytes, Failure, Fault, FaultKind, ListOf, TableNo};
 use gr_print::{OutItem, trimmed};
@@ -100,11 +100,32 @@ fn with_key(
     ensures text { IfErr result IsTold }
 {
     let mut keys = made.into_vec();
-    keys.push(SortKey {
-        item: item_named(alloc, schema, table, unsigned(text))?,
-        descending: text.starts_with('-'),
-    })?;
+    keys.push(key_of(alloc, schema, table, text)?)?;
     Ok(ListOf::from_vec(keys))
+}
+
+// The key that a text writes.
+fn key_of(
+    alloc: Global,
+    schema: &Schema,
+    table: TableNo,
+    text: &str,
+) -> Result<SortKey, Failure<Fault>>
+    requires { is_some (table_at schema.now table) ≡ true }
+    ensures exact { Answers result (key_of schema.now table text.now) }
+    ensures fit { IfOk result (λ key. IsSortableItem schema.now key.item) }
+    ensures text { IfErr result IsTold }
+{
+    let item = item_named(alloc, schema, table, unsigned(text))?;
+    let descending = is_descending(text);
+    Ok(SortKey { item, descending })
+}
+
+// Whether a key has the sign that turns its order round.
+fn is_descending(text: &str) -> bool
+    ensures { result ≡ is_descending text.now }
+{
+    text.starts_with('-')
 }
 
 // What follows the sign of a key, where it has one.
@@ -141,12 +162,29 @@ fn item_named(
     ensures text { IfErr result IsTold }
 {
     if SCORE == name {
-        return Ok(OutItem::Score);
+        Ok(OutItem::Score)
+    } else {
+        path_named(alloc, schema, table, name)
     }
+}
+
+// The path to one value that a name stands for, which is not the score's.
+fn path_named(
+    alloc: Global,
+    schema: &Schema,
+    table: TableNo,
+    name: &str,
+) -> Result<OutItem, Failure<Fault>>
+    requires { is_some (table_at schema.now table) ≡ true }
+    ensures exact { Answers result (path_named schema.now table name.now) }
+    ensures fit { IfOk result (IsSortableItem schema.now) }
+    ensures text { IfErr result IsTold }
+{
     let path = schema.resolve(alloc, table, name.as_bytes())?;
     if path.shape.list {
         let name = Bytes::from_slice(alloc, name.as_bytes())?;
-        return Err(Failure::Refused(Fault::named(FaultKind::BadSortKey, name)));
+        Err(Failure::Refused(Fault::named(FaultKind::BadSortKey, name)))
+    } else {
+        Ok(OutItem::At(path))
     }
-    Ok(OutItem::At(path))
 }
