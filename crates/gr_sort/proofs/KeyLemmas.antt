@@ -2,7 +2,6 @@
 use Rattle.std.proofs.Common.{◌≡◌, ◌≢◌, Decides, eq-eqb, eqb, eqb-true, ne_eqb, true≢false, arith, Option, Some, None, ℕ, ◌+◌, ◌<◌, ◌≤◌, ◌==◌, not, Bool, true, false, cond, List, [], ◌∷◌, ◌++◌, length, map, filter, drop, get_or, Result, Ok, Err, append_assoc, append-nil, refl, sym, ap, subst, ◌∙◌}
 use Rattle.std.proofs.lemmas.List.{drop_all, drop_more}
 use Rattle.std.specs.Cmp.{both_ways}
-use Rattle.std.specs.List.{AllByRecursion}
 use Rattle.std.specs.Option.{ok_or}
 use Rattle.gr_base.specs.Failure.{Answers, result_map, result_then}
 use Rattle.gr_base.specs.Fault.{fault_named}
@@ -15,8 +14,8 @@ use Rattle.gr_print.specs.Columns.{trimmed}
 use Rattle.gr_schema.specs.Paths.{path_of}
 use Rattle.gr_schema.specs.Schema.{SchemaDef}
 use Rattle.gr_values.specs.declared.path.Path.{Path}
-use Rattle.gr_sort.specs.Inside.Named.{Adds, AreSortable, IsSortableItem}
-use Rattle.gr_sort.specs.Keys.{IsSortable, is_descending, key_of, keys_of, unsigned}
+use Rattle.gr_sort.specs.Inside.Named.{Adds, AreSortable}
+use Rattle.gr_sort.specs.Keys.{is_descending, key_of, keys_of, unsigned}
 use Rattle.gr_sort.specs.declared.keys.SortKey.{SortKey}
 
 -- what is meant by more is meant by all
@@ -77,20 +76,6 @@ module _ (schema : SchemaDef) (table : TableNo) where
   Adds-none : (before : List SortKey) → Adds schema table before [] (Ok before)
   Adds-none before = record { found = λ value e. ap Ok (append-nil before) ∙ cc; refused = λ why e. absurd (cc) }
 
-  -- one text
-  pub Adds-one : (before : List SortKey) (text : List ℕ) (key : SortKey) → Answers (Ok key) (key_of schema table text) → Adds schema table before (text ∷ []) (Ok (before ++ key ∷ []))
-  Adds-one before text key written = record {
-    found = λ value e. ap (λ r. result_map (λ more. before ++ more) (result_then (λ key. result_map (λ others. key ∷ others) (keys_of schema table [])) r)) (written.found key refl) ∙ cc;
-    refused = λ why e. absurd (cc);
-  }
-
-  pub Adds-refused : (before : List SortKey) (text : List ℕ) (why : Failure Fault) → Answers (Err why) (key_of schema table text) → Adds schema table before (text ∷ []) (Err why)
-  Adds-refused before text (Refused fault) written = record {
-    found = λ value e. absurd (cc);
-    refused = λ other e. ap (λ r. result_map (λ more. before ++ more) (result_then (λ key. result_map (λ others. key ∷ others) (keys_of schema table [])) r)) (let same : fault ≡ other = cc in written.refused other (ap (λ why. Err (Refused why)) same));
-  }
-  Adds-refused before text NoMemory written = record { found = λ value e. absurd (cc); refused = λ other e. absurd (cc) }
-
   -- what is added to nothing
   pub Adds-all : (texts : List (List ℕ)) (result : Result (List SortKey) (Failure Fault)) → Adds schema table [] texts result → Answers result (keys_of schema table texts)
   Adds-all texts result adds = subst (λ meant. Answers result meant) (map_nil (keys_of schema table texts)) adds
@@ -116,17 +101,9 @@ module _ (schema : SchemaDef) (table : TableNo) (all : List (List ℕ)) (parts :
   taken-all end =
       subst (λ meant. Answers (Ok before) meant) (sym (taken ∙ ap (λ xs. total schema table before (given (map trimmed xs))) (drop_all n parts end))) (Adds-none schema table before)
 
--- keys that can sort, and one more
-AllByRecursion-push : {X : Type 0} (P : X → Type 0) (xs : List X) (x : X) → AllByRecursion P xs → P x → AllByRecursion P (xs ++ x ∷ [])
-AllByRecursion-push P [] x all one = (one, tt)
-AllByRecursion-push P (y ∷ ys) x all one = (all.0, AllByRecursion-push P ys x all.1 one)
-
+-- no keys can sort
 pub AreSortable-none : (schema : SchemaDef) → AreSortable schema []
 AreSortable-none schema db same fits = tt
-
-pub AreSortable-more : (schema : SchemaDef) (keys : List SortKey) (key : SortKey) → AreSortable schema keys → IsSortableItem schema key.item → AreSortable schema (keys ++ key ∷ [])
-AreSortable-more schema keys key all one db same fits =
-    AllByRecursion-push (IsSortable db.tables) keys key (all db same fits) (record { fits = one.fits db same fits; single = one.single })
 
 -- a key's sign
 pub descends : (text : List ℕ) (r : Bool) → Decides r (get_or text 0 0 ≡ 45) → r ≡ is_descending text
@@ -137,32 +114,6 @@ descends (c ∷ cs) r decides = both_ways r (eqb c 45) (λ e. eq-eqb c 45 (decid
 pub unsigned-kept : (text : List ℕ) → ((rest : List ℕ) → text ≢ 45 ∷ rest) → ((rest : List ℕ) → text ≢ 43 ∷ rest) → unsigned text ≡ text
 unsigned-kept [] minus plus = refl
 unsigned-kept (c ∷ cs) minus plus = rw (ne_eqb c 45 (λ is. minus cs (ap (λ d. d ∷ cs) is)), ne_eqb c 43 (λ is. plus cs (ap (λ d. d ∷ cs) is))) refl
-
--- what is found is what is meant, and so with what is made of it
-pub Answers-map : {T U F : Type 0} (f : T → U) (result : Result T (Failure F)) (meant : Result T F) (made : Result U (Failure F)) → Answers result meant
-    → ((value : T) → result ≡ Ok value → made ≡ Ok (f value)) → ((why : Failure F) → result ≡ Err why → made ≡ Err why) → Answers made (result_map f meant)
-Answers-map f (Ok x) meant made answers good bad = record {
-  found = λ value e. let same : f x ≡ value = cc (good x refl) in ap (result_map f) (answers.found x refl) ∙ ap Ok same;
-  refused = λ why e. absurd (cc (good x refl));
-}
-Answers-map f (Err why) meant made answers good bad = record {
-  found = λ value e. absurd (cc (bad why refl));
-  refused = λ fault e. let same : why ≡ Refused fault = cc (bad why refl) in ap (result_map f) (answers.refused fault (ap Err same));
-}
-
--- the fault of a path is that of its key
-pub Answers-stops : {T U F : Type 0} (f : T → Result U F) (why : Failure F) (meant : Result T F) → Answers (Err why) meant → Answers (Err why) (result_then f meant)
-Answers-stops f why meant answers = record {
-  found = λ value e. absurd (cc);
-  refused = λ fault e. ap (result_then f) (answers.refused fault (let same : why ≡ Refused fault = cc in ap Err same));
-}
-
--- what is found
-pub Answers-found : {T F : Type 0} (meant : Result T F) (x : T) → meant ≡ Ok x → Answers (Ok x) meant
-Answers-found meant x is = record { found = λ value e. is ∙ cc; refused = λ why e. absurd (cc) }
-
-pub Answers-refused : {T F : Type 0} (meant : Result T F) (why : F) → meant ≡ Err why → Answers (Err (Refused why)) meant
-Answers-refused meant why is = record { found = λ value e. absurd (cc); refused = λ other e. is ∙ cc }
 
 -- a path that is found
 pub path_found : (schema : SchemaDef) (table : TableNo) (name : List ℕ) (path : Path) → Answers (Ok path) (ok_or (path_of schema table name) (fault_named NoSuchColumn name))

@@ -1,5 +1,5 @@
 -- Lists put in order one element after the other.
-use Rattle.std.proofs.Common.{◌≡◌, ℕ, zero, suc, ◌+◌, ◌<◌, ◌≤◌, Bool, true, false, cond, not, ◌&&◌, List, [], ◌∷◌, ◌++◌, filter, fold, length, get_or, map, take, take-take, append_assoc, append-nil, Ordering, is_lt, refl, sym, ap, subst, ◌∙◌, arith, true≢false}
+use Rattle.std.proofs.Common.{◌≡◌, ℕ, zero, suc, ◌+◌, ◌<◌, ◌≤◌, Bool, true, false, cond, not, ◌&&◌, List, [], ◌∷◌, ◌++◌, filter, fold, length, get_or, map, take, take-take, append_assoc, append-nil, Ordering, is_lt, refl, sym, ap, subst, ◌∙◌, arith}
 use Rattle.std.specs.Cmp.{IsStrictWeakOrder}
 use Rattle.std.specs.List.{AllByRecursion}
 use Rattle.std.specs.List.Sorted.{IsPermutation, IsSortedBy, ties}
@@ -88,7 +88,7 @@ IsPermutation-fold cmp [] done = subst (λ ys. IsPermutation ys done) (sym (appe
 IsPermutation-fold cmp (x ∷ xs) done =
     IsPermutation-trans (done ++ x ∷ xs) (x ∷ (done ++ xs)) (fold (put cmp) (put cmp done x) xs) (IsPermutation-middle done x xs)
     (IsPermutation-trans (x ∷ (done ++ xs)) (put cmp done x ++ xs) (fold (put cmp) (put cmp done x) xs)
-      (IsPermutation-append_left xs (x ∷ done) (put cmp done x) (IsPermutation-put cmp done x)) (IsPermutation-fold cmp xs (put cmp done x)))
+    (IsPermutation-append_left xs (x ∷ done) (put cmp done x) (IsPermutation-put cmp done x)) (IsPermutation-fold cmp xs (put cmp done x)))
 
 pub IsPermutation-in_order : {X : Type 0} (cmp : X → X → Ordering) (xs : List X) → IsPermutation xs (in_order cmp xs)
 IsPermutation-in_order cmp xs = IsPermutation-fold cmp xs []
@@ -156,9 +156,9 @@ module _ {X : Type 0} (cmp : X → X → Ordering) (weak : IsStrictWeakOrder (λ
   not_tied a x y z less tied not_less =
       not_both (ties below a z)
       (λ also.
-        let one = neither (below a x) (below x a) tied in
-        let other = neither (below a z) (below z a) also in
-        sym less ∙ weak.chain x z y (weak.chain x a z one.1 other.0) not_less)
+      let one = neither (below a x) (below x a) tied in
+      let other = neither (below a z) (below z a) also in
+      sym less ∙ weak.chain x z y (weak.chain x a z one.1 other.0) not_less)
 
   filter-put : (a : X) (ys : List X) (x : X) → IsUp ys → filter (ties below a) (put cmp ys x) ≡ filter (ties below a) ys ++ filter (ties below a) (x ∷ [])
   filter-put a [] x up = refl

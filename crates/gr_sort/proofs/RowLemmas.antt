@@ -1,5 +1,5 @@
 -- Hits with their values go as hits.
-use Rattle.std.proofs.Common.{◌≡◌, ℕ, zero, suc, ◌+◌, ◌<◌, ◌≤◌, Bool, true, false, cond, eqb, ltb, ltb-true, List, [], ◌∷◌, ◌++◌, length, map, drop, get_or, slice_get, take, Option, Some, None, Ordering, Less, Equal, Greater, is_lt, nat_cmp, length-take, refl, sym, ap, ◌∙◌, arith}
+use Rattle.std.proofs.Common.{◌≡◌, ℕ, zero, suc, ◌+◌, ◌<◌, ◌≤◌, Bool, true, false, cond, eqb, ltb, ltb-true, List, [], ◌∷◌, ◌++◌, length, map, drop, get_or, take, Option, Ordering, Less, Equal, Greater, is_lt, nat_cmp, length-take, refl, sym, ap, ◌∙◌, arith}
 use Rattle.std.proofs.lemmas.List.{drop_more, get_or-map, length-map, map-append, take-map}
 use Rattle.std.specs.List.Sorted.{IsStrictlyIncreasing}
 use Rattle.std.specs.Ordering.{ordering_then}
@@ -105,11 +105,11 @@ pub ordered-none : (tables : List Records) (hits : List Hit) → IsStrictlyIncre
 ordered-none tables hits up =
     in_order-same (hit_cmp tables []) (hit_weak tables []) hits
     (IsUp-sorted (hit_cmp tables []) (hit_weak tables []) hits
-      (λ k d low h.
-        let less = up k (omega (arith, h, length-map hits (λ (hit : Hit). hit.0.0))) in
-        let at = get_or-map (λ (hit : Hit). hit.0.0) hits k d 0 (omega (arith, h)) in
-        let next = get_or-map (λ (hit : Hit). hit.0.0) hits (k + 1) d 0 h in
-        not_less (get_or hits (k + 1) d).0.0 (get_or hits k d).0.0 (omega (arith, less, at, next))))
+    (λ k d low h.
+    let less = up k (omega (arith, h, length-map hits (λ (hit : Hit). hit.0.0))) in
+    let at = get_or-map (λ (hit : Hit). hit.0.0) hits k d 0 (omega (arith, h)) in
+    let next = get_or-map (λ (hit : Hit). hit.0.0) hits (k + 1) d 0 h in
+    not_less (get_or hits (k + 1) d).0.0 (get_or hits k d).0.0 (omega (arith, less, at, next))))
 
 -- rows with one more
 pub keyed-push : (rows more : List Row) (row : Row) → more ≡ rows ++ row ∷ [] → map keyed_row more ≡ map keyed_row rows ++ keyed_row row ∷ []

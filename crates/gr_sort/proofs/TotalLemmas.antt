@@ -1,18 +1,16 @@
 -- The orders are total.
-use Rattle.std.proofs.Common.{◌≡◌, ℕ, Bool, true, false, ℤ, pos, List, [], ◌∷◌, map, Option, Some, None, Ordering, Less, Equal, Greater, int_cmp, is_lt, nat_cmp, refl, sym, ap, subst, ◌∙◌}
+use Rattle.std.proofs.Common.{◌≡◌, ℕ, Bool, true, false, ℤ, pos, List, [], ◌∷◌, Ordering, Less, Equal, Greater, int_cmp, is_lt, nat_cmp, refl, sym, subst}
 use Rattle.std.specs.Cmp.{IsStrictWeakOrder, IsTotalOrder, back_total, bool_cmp_total, int_cmp_total, nat_cmp_total, on_total, then_total}
 use Rattle.std.specs.Cmp.Lexicographic.{nat_list_cmp_total, options_total, slice_cmp}
-use Rattle.std.specs.Ordering.{bool_cmp, on, ordering_reverse, ordering_then, then_cmp}
+use Rattle.std.specs.Ordering.{bool_cmp, on, ordering_then, then_cmp}
 use Rattle.std.proofs.lemmas.List.Sorted.{ranks_by}
 use Rattle.gr_expr.specs.Tables.{Records}
-use Rattle.gr_expr.specs.Values.{Worth}
 use Rattle.gr_expr.specs.declared.typed.Literal.{Literal}
 use Rattle.gr_expr.specs.declared.typed.Literal.TheVariants.{Number, Text, Truth}
 use Rattle.gr_print.specs.Block.{Hit}
 use Rattle.gr_sort.specs.Inside.Rows.{Keyed, first_worth, keyed_cmp, keyed_row, other_worths, values_cmp}
-use Rattle.gr_sort.specs.Order.{hit_cmp, item_worth, key_cmp, kind, literal_cmp, turned, worth_cmp}
+use Rattle.gr_sort.specs.Order.{hit_cmp, item_worth, kind, literal_cmp, turned, worth_cmp}
 use Rattle.gr_sort.specs.declared.keys.SortKey.{SortKey}
-use Rattle.gr_sort.specs.declared.row.Row.{Row}
 
 -- what a value holds of each kind
 abbrev truth_of : Literal → Bool

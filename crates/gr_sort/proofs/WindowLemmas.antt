@@ -1,5 +1,5 @@
 -- The hits of a span, from the first so many in order.
-use Rattle.std.proofs.Common.{◌≡◌, ℕ, ◌+◌, ◌-◌, ◌<◌, ◌≤◌, min, Bool, true, false, leb, leb-true, leb-false, List, [], drop, length, take, take_all, refl, sym, ap, ◌∙◌, arith}
+use Rattle.std.proofs.Common.{◌≡◌, ℕ, ◌+◌, ◌-◌, ◌≤◌, min, Bool, true, false, leb, leb-true, leb-false, List, [], drop, length, take, take_all, refl, sym, ap, ◌∙◌, arith}
 use Rattle.std.proofs.lemmas.List.{drop-take, drop_all, length-drop, take_min}
 
 -- from a first one to an end are those after the first up to a count

@@ -1,4 +1,4 @@
-use Rattle.std.proofs.Common.{◌≡◌, ◌∙◌, ◌∷◌, ◌++◌, [], ap, sym, get_or, map, take}
+use Rattle.std.proofs.Common.{◌∙◌, ◌∷◌, ◌++◌, [], ap, sym, get_or, map, take}
 use Rattle.std.proofs.lemmas.List.{map_more}
 use Rattle.gr_print.specs.Block.{Hit}
 use Rattle.gr_sort.specs.Inside.Rows.{keyed, keyed_cmp, keyed_row}

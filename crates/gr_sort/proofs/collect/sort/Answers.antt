@@ -1,4 +1,4 @@
-use Rattle.std.proofs.Common.{◌≡◌, ◌∙◌, rules, is_lt, ap, sym, map}
+use Rattle.std.proofs.Common.{◌∙◌, rules, is_lt, ap, map}
 use Rattle.std.proofs.lemmas.Fn.{always_returns_same}
 use Rattle.gr_sort.specs.Inside.Rows.{keyed_cmp, keyed_row}
 use Rattle.gr_sort.specs.declared.row.Row.{Row}

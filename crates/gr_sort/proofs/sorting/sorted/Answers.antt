@@ -1,6 +1,6 @@
-use Rattle.std.proofs.Common.{◌≡◌, ◌∙◌, ◌+◌, ◌-◌, ℕ, List, [], ap, arith, drop, eqb-true, length, map, min, refl, subst, sym, take}
+use Rattle.std.proofs.Common.{◌≡◌, ◌∙◌, ◌+◌, ◌-◌, [], ap, arith, drop, eqb-true, length, map, min, refl, sym, take}
 use Rattle.std.proofs.lemmas.Result.{IfOk-weaker}
-use Rattle.gr_print.specs.Block.{Hit, hits_within}
+use Rattle.gr_print.specs.Block.{hits_within}
 use Rattle.gr_sort.specs.Inside.Rows.{keyed_row}
 use Rattle.gr_sort.specs.Order.{hit_cmp, ordered}
 use Rattle.gr_sort.specs.declared.row.Row.{Row}
