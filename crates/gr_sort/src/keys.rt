@@ -1,5 +1,5 @@
 // The keys by which hits are sorted.
-ghost use Rattle.std.specs.Prelude.{◌≡◌, ◌≢◌, ◌==◌, ◌∷◌, [], ℕ, List, true, filter, is_some, length, not, IfErr, IfOk, IsUtf8};
+ghost use Rattle.std.specs.Prelude.{◌≡◌, ◌≢◌, ◌==◌, ◌∷◌, [], ℕ, List, true, filter, is_some, length, not, IfErr, IfOk};
 ghost use Rattle.std.specs.List.{AllByRecursion};
 ghost use Rattle.gr_base.specs.Failure.{Answers};
 ghost use Rattle.gr_db.specs.Db.{Db};
