@@ -24,7 +24,7 @@ struct Kept<'a> {
     is_cut: bool,
 }
 
-/// Rows of which the first so many in order are the first so many of all hits. At most twice as many are kept at a time.
+/// Rows of which the first so many in order are the first so many of all hits. At most twice as many are kept at a time, or `LEAST_ROOM`.
 pub(crate) fn first_rows<'a, R: Rows>(
     alloc: Global,
     rows: &'a R,
