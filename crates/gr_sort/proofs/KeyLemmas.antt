@@ -1,5 +1,5 @@
 -- Keys that texts write, taken one after the other.
-use Rattle.std.proofs.Common.{◌≡◌, ◌≢◌, Decides, eq-eqb, eqb, eqb-true, ne_eqb, true≢false, arith, Option, Some, None, ℕ, ◌+◌, ◌<◌, ◌≤◌, ◌==◌, not, Bool, true, false, cond, List, [], ◌∷◌, ◌++◌, length, map, filter, drop, get_or, Result, Ok, Err, append_assoc, append-nil, refl, sym, ap, subst, ◌∙◌}
+use Rattle.std.proofs.Common.{◌≡◌, ◌≢◌, Decides, eq-eqb, eqb, eqb-true, ne_eqb, true≢false, arith, Option, Some, None, ℕ, ◌+◌, ◌<◌, ◌≤◌, ◌==◌, not, Bool, false, List, [], ◌∷◌, ◌++◌, length, map, filter, drop, get_or, Result, Ok, Err, append_assoc, append-nil, refl, sym, ap, subst, ◌∙◌}
 use Rattle.std.proofs.lemmas.List.{drop_all, drop_more}
 use Rattle.std.specs.Cmp.{both_ways}
 use Rattle.std.specs.Option.{ok_or}
@@ -17,6 +17,7 @@ use Rattle.gr_values.specs.declared.path.Path.{Path}
 use Rattle.gr_sort.specs.Inside.Named.{Adds, AreSortable}
 use Rattle.gr_sort.specs.Keys.{is_descending, key_of, keys_of, unsigned}
 use Rattle.gr_sort.specs.declared.keys.SortKey.{SortKey}
+use Rattle.gr_sort.proofs.OrderLemmas.{filter-first}
 
 -- what is meant by more is meant by all
 map_map : (before : List SortKey) (key : SortKey) (others : Result (List SortKey) Fault)
@@ -32,15 +33,12 @@ map_nil (Err why) = refl
 abbrev pub given : List (List ℕ) → List (List ℕ)
 given texts = filter (λ item. not (length item == 0)) texts
 
--- the first of texts that may be left out
-filter-first : (keep : List ℕ → Bool) (x : List ℕ) (xs : List (List ℕ)) → filter keep (x ∷ xs) ≡ filter keep (x ∷ []) ++ filter keep xs
-filter-first keep x xs = elim (keep x) as (λ b. cond b (x ∷ filter keep xs) (filter keep xs) ≡ cond b (x ∷ []) [] ++ filter keep xs) [ true ↦ refl | false ↦ refl ]
-
+-- the first of the pieces that are left
 given-first : (parts : List (List ℕ)) (n : ℕ) (item : List ℕ) → n < length parts → item ≡ get_or parts n item
     → given (map trimmed (drop n parts)) ≡ given (trimmed item ∷ []) ++ given (map trimmed (drop (n + 1) parts))
 given-first parts n item here is =
     ap (λ xs. given (map trimmed xs)) (drop_more parts n item here ∙ ap (λ x. x ∷ drop (n + 1) parts) (sym is))
-    ∙ filter-first (λ item. not (length item == 0)) (trimmed item) (map trimmed (drop (n + 1) parts))
+    ∙ sym (filter-first (λ item. not (length item == 0)) (trimmed item) (map trimmed (drop (n + 1) parts)))
 
 module _ (schema : SchemaDef) (table : TableNo) where
   -- what is meant by keys so far and those of texts

@@ -31,7 +31,7 @@ filter-none : {X : Type 0} (p : X → Bool) (xs : List X) → AllByRecursion (λ
 filter-none p [] none = refl
 filter-none p (x ∷ xs) none = ap (λ b. cond b (x ∷ filter p xs) (filter p xs)) none.0 ∙ filter-none p xs none.1
 
-filter-first : {X : Type 0} (p : X → Bool) (x : X) (xs : List X) → filter p (x ∷ []) ++ filter p xs ≡ filter p (x ∷ xs)
+pub filter-first : {X : Type 0} (p : X → Bool) (x : X) (xs : List X) → filter p (x ∷ []) ++ filter p xs ≡ filter p (x ∷ xs)
 filter-first p x xs = elim (p x) as (λ b. cond b (x ∷ []) [] ++ filter p xs ≡ cond b (x ∷ filter p xs) (filter p xs)) [ true ↦ refl | false ↦ refl ]
 
 -- the first that passes is one of all
