@@ -1,0 +1,2 @@
+// What no clause says.
+use super::*;
