@@ -1,5 +1,6 @@
 -- The groups of a drilldown.
-use Rattle.std.specs.Prelude.{ℕ, Bool, false, beq, ◌==◌, ◌&&◌, not, min, List, [], ◌∷◌, map, filter, count_by, Option}
+use Rattle.std.specs.Prelude.{ℕ, Bool, false, ◌==◌, ◌&&◌, not, min, List, [], ◌∷◌, map, filter, count_by, Option}
+use Rattle.std.specs.Bool.{beq}
 use Rattle.std.specs.List.{filter_map, flat_map}
 use Rattle.std.specs.Option.{option_and_then, option_map, option_to_list}
 use Rattle.std.specs.Ordering.{int_eq}

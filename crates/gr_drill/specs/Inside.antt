@@ -1,3 +1,3 @@
 pub mod Lent
 pub mod Tally
-pub mod Laws
+pub mod Same

@@ -1,5 +1,5 @@
 // Counting what stands in a cell.
-ghost use Rattle.std.specs.Prelude.{◌≡◌, List, OnOk, map};
+ghost use Rattle.std.specs.Prelude.{◌≡◌, ◌∷◌, [], List, OnOk, Option, map};
 ghost use Rattle.std.specs.List.{filter_map};
 ghost use Rattle.std.specs.Option.{option_map, option_to_list};
 ghost use Rattle.gr_drill.specs.Groups.{cell_keys, reference_key};

@@ -22,7 +22,7 @@ pub(crate) enum LentKey<'a> {
 impl PartialEq for LentKey<'_> {
     ghost use Rattle.std.specs.Cmp.{partial_equiv_from_equiv};
     ghost use Rattle.gr_drill.specs.Inside.Lent.{is_same_lent};
-    ghost use Rattle.gr_drill.specs.Inside.Laws.{lent_equiv};
+    ghost use Rattle.gr_drill.specs.Inside.Same.{lent_equiv};
 
     ghost eq = { is_same_lent };
 
@@ -42,14 +42,14 @@ impl PartialEq for LentKey<'_> {
 }
 
 impl Eq for LentKey<'_> {
-    ghost use Rattle.gr_drill.specs.Inside.Laws.{lent_equiv};
+    ghost use Rattle.gr_drill.specs.Inside.Same.{lent_equiv};
 
     ghost laws = { lent_equiv };
 }
 
 impl Hash for LentKey<'_> {
     ghost use Rattle.gr_drill.specs.Inside.Lent.{hashed, lent};
-    ghost use Rattle.gr_drill.specs.Inside.Laws.{lent_alike};
+    ghost use Rattle.gr_drill.specs.Inside.Same.{lent_alike};
 
     ghost hash_input = { λ key. hashed (lent key) };
 

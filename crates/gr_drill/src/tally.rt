@@ -25,7 +25,7 @@ fn one_more(count: u32) -> u32
 
 /// Counts a key once more. It takes two look-ups.
 pub(crate) fn count<'a>(tally: &mut Tally<'a>, key: LentKey<'a>) -> Result<(), NoMemory>
-    ensures { OnOk result (lent_groups tally.new.entries ≡ with_one (lent_groups tally.old.entries) (lent key)) }
+    ensures { OnOk result (lent_groups tally.new.entries ≡ with_one (lent_groups tally.old.entries) (lent key.entry)) }
 {
     let before = match tally.get(&key) {
         Some(count) => *count,
@@ -40,7 +40,7 @@ pub(crate) fn count_some<'a>(
     tally: &mut Tally<'a>,
     key: Option<LentKey<'a>>,
 ) -> Result<(), NoMemory>
-    ensures { OnOk result (lent_groups tally.new.entries ≡ with_all (lent_groups tally.old.entries) (option_to_list (option_map lent key))) }
+    ensures { OnOk result (lent_groups tally.new.entries ≡ with_all (lent_groups tally.old.entries) (option_to_list (option_map lent key.entry))) }
 {
     match key {
         Some(key) => count(tally, key),
