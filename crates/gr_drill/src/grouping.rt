@@ -1,7 +1,6 @@
 // The groups of hits.
 ghost use Rattle.std.specs.Prelude.{◌≡◌, IfOk};
 ghost use Rattle.gr_drill.specs.Groups.{groups_of};
-ghost use Rattle.gr_expr.specs.Fits.{FitsPath};
 
 use crate::fields::count_record;
 use crate::tally::{Tally, groups_in};
@@ -18,7 +17,6 @@ pub fn groups<R: Rows>(
     hits: &[(RecordId, u32)],
     key: &Path,
 ) -> Result<Vec<Group>, NoMemory>
-    requires { FitsPath (R.tables rows.now) key.now }
     ensures { IfOk result (λ groups. groups.items ≡ groups_of (R.tables rows.now) key.now hits.now) }
 {
     let mut tally = Tally::new(alloc);
