@@ -1,14 +1,15 @@
 -- Keys that are counted one after the other make the groups.
-use Rattle.std.proofs.Common.{◌≡◌, ℕ, ◌+◌, Bool, true, false, cond, List, [], ◌∷◌, ◌++◌, refl, sym, ap, ◌∙◌, map, filter, true≢false, append_assoc, append-nil, arith}
-use Rattle.std.proofs.lemmas.Grind.{common_steps}
-use Rattle.std.proofs.lemmas.List.Sums.{fold-append, sum_by_from}
-use Rattle.std.specs.Prelude.{min, not, if◌then◌else◌, count_by, fold}
-use Rattle.gr_drill.specs.Groups.{count_of, firsts, group_of, grouped, is_same_group}
-use Rattle.gr_drill.specs.Inside.Same.{group_equiv, same_group}
-use Rattle.gr_drill.specs.Inside.Tally.{larger, one_more, with_all, with_one}
-use Rattle.gr_drill.specs.declared.tally.TheConstants.{MOST_COUNT}
+use Rattle.std.proofs.Common.{◌≡◌, ℕ, ◌+◌, ◌≤◌, Bool, true, false, cond, List, [], ◌∷◌, ◌++◌, refl, sym, ap, ◌∙◌, length, map, filter, take, take_all, true≢false, append_assoc, append-nil, arith}
+use Rattle.std.proofs.lemmas.List.Sums.{fold-append}
+use Rattle.std.specs.Prelude.{not, if◌then◌else◌, count_by}
+use Rattle.gr_base.specs.declared.numbers.RecordId.{RecordId}
+use Rattle.gr_drill.specs.Groups.{count_of, counted, firsts, grouped, groups_of, is_same_group}
+use Rattle.gr_drill.specs.Inside.Same.{group_equiv}
+use Rattle.gr_drill.specs.Inside.Tally.{one_more, with_all, with_one}
 use Rattle.gr_expr.specs.declared.groups.Group.{Group}
 use Rattle.gr_expr.specs.declared.groups.GroupKey.{GroupKey}
+use Rattle.gr_expr.specs.Tables.{Records}
+use Rattle.gr_values.specs.declared.path.Path.{Path}
 
 -- keys other than one
 abbrev others : GroupKey → List GroupKey → List GroupKey
@@ -132,5 +133,10 @@ grouped-from keys (key ∷ more) =
     ∙ ap grouped (append_assoc keys (key ∷ []) more)
 
 -- keys that are counted one after the other make their groups
-pub grouped-all : (keys : List GroupKey) → with_all [] keys ≡ grouped keys
+grouped-all : (keys : List GroupKey) → with_all [] keys ≡ grouped keys
 grouped-all keys = grouped-from [] keys
+
+-- where all hits are counted, their groups are made
+pub all-counted : (tables : List Records) (path : Path) (hits : List (RecordId × ℕ)) (i : ℕ) (groups : List Group) → length hits ≤ i → groups ≡ with_all [] (counted tables path (take i hits)) → groups ≡ groups_of tables path hits
+all-counted tables path hits i groups past made =
+    made ∙ ap (λ seen. with_all [] (counted tables path seen)) (take_all i hits past) ∙ grouped-all (counted tables path hits)

@@ -23,16 +23,20 @@ fn one_more(count: u32) -> u32
     count.saturating_add(1).min(MOST_COUNT)
 }
 
-/// Counts a key once more. It takes two look-ups.
+/// Counts a key once more. It takes one look-up, and one more where the key is new.
 pub(crate) fn count<'a>(tally: &mut Tally<'a>, key: LentKey<'a>) -> Result<(), NoMemory>
     ensures { OnOk result (lent_groups tally.new.entries ≡ with_one (lent_groups tally.old.entries) (lent key.entry)) }
 {
-    let before = match tally.get(&key) {
-        Some(count) => *count,
-        None => 0,
-    };
-    tally.insert(key, one_more(before))?;
-    Ok(())
+    match tally.get_mut(&key) {
+        Some(count) => {
+            *count = one_more(*count);
+            Ok(())
+        }
+        None => {
+            tally.insert(key, 1)?;
+            Ok(())
+        }
+    }
 }
 
 /// Counts a key once more, where there is one.

@@ -1,7 +1,7 @@
 -- Keys of one group are one key.
 use Rattle.std.proofs.Common.{refl, sym, ap, subst, ◌∙◌, true≢false}
 use Rattle.std.proofs.lemmas.Bool.Decides.{Decides-and, Decides-eqb, Decides-int_eq}
-use Rattle.std.specs.Prelude.{◌≡◌, Bool, true, false, ◌==◌, IsTrue}
+use Rattle.std.specs.Prelude.{◌≡◌, true, ◌==◌, IsTrue}
 use Rattle.std.specs.Bool.{Decides}
 use Rattle.std.specs.Cmp.{IsEquivalence, booleans_Decides, decided, on_equiv}
 use Rattle.std.specs.Cmp.Lexicographic.{bytes_decides}

@@ -1,4 +1,3 @@
-use Rattle.std.proofs.Common.{rules, arith}
 use Rattle.gr_drill.proofs.CountLemmas.{counted-next}
 use Rattle.gr_drill.specs.Groups.{reference_key}
 use Rattle.gr_drill.specs.Inside.Tally.{lent_groups}
