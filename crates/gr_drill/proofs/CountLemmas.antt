@@ -15,13 +15,13 @@ use Rattle.gr_drill.specs.declared.lent_key.LentKey.{LentKey}
 
 -- one more of a key that was counted before
 pub counted-before : (entries : List (LentKey × ℕ)) (key : LentKey) (count : ℕ) → lookup (is_same_lent key) entries ≡ Some count
-  → lent_groups (set_value (is_same_lent key) entries (one_more count)) ≡ with_one (lent_groups entries) (lent key)
+    → lent_groups (set_value (is_same_lent key) entries (one_more count)) ≡ with_one (lent_groups entries) (lent key)
 counted-before [] key count found = cc
 counted-before (entry ∷ entries) key count found = by (is_same_lent key entry.0) refl (counted-before entries key count)
   where
     by : (same : Bool) → is_same_lent key entry.0 ≡ same
-      → (lookup (is_same_lent key) entries ≡ Some count → lent_groups (set_value (is_same_lent key) entries (one_more count)) ≡ with_one (lent_groups entries) (lent key))
-      → lent_groups (set_value (is_same_lent key) (entry ∷ entries) (one_more count)) ≡ with_one (lent_groups (entry ∷ entries)) (lent key)
+        → (lookup (is_same_lent key) entries ≡ Some count → lent_groups (set_value (is_same_lent key) entries (one_more count)) ≡ with_one (lent_groups entries) (lent key))
+        → lent_groups (set_value (is_same_lent key) (entry ∷ entries) (one_more count)) ≡ with_one (lent_groups (entry ∷ entries)) (lent key)
     by true e rest =
         let is_count : Some entry.1 ≡ Some count = rw e at found in
         rw e (ap (λ n. record { key = lent entry.0; count = one_more n } ∷ lent_groups entries) (sym (ap (λ n. unwrap_or n 0) is_count)))
@@ -29,13 +29,13 @@ counted-before (entry ∷ entries) key count found = by (is_same_lent key entry.
 
 -- a key that is counted for the first time
 pub counted-first : (entries : List (LentKey × ℕ)) (key : LentKey) → lookup (is_same_lent key) entries ≡ None
-  → lent_groups (insert_entry is_same_lent entries key 1) ≡ with_one (lent_groups entries) (lent key)
+    → lent_groups (insert_entry is_same_lent entries key 1) ≡ with_one (lent_groups entries) (lent key)
 counted-first [] key none = refl
 counted-first (entry ∷ entries) key none = by (is_same_lent key entry.0) refl (counted-first entries key)
   where
     by : (same : Bool) → is_same_lent key entry.0 ≡ same
-      → (lookup (is_same_lent key) entries ≡ None → lent_groups (insert_entry is_same_lent entries key 1) ≡ with_one (lent_groups entries) (lent key))
-      → lent_groups (insert_entry is_same_lent (entry ∷ entries) key 1) ≡ with_one (lent_groups (entry ∷ entries)) (lent key)
+        → (lookup (is_same_lent key) entries ≡ None → lent_groups (insert_entry is_same_lent entries key 1) ≡ with_one (lent_groups entries) (lent key))
+        → lent_groups (insert_entry is_same_lent (entry ∷ entries) key 1) ≡ with_one (lent_groups (entry ∷ entries)) (lent key)
     by true e rest = let some : Some entry.1 ≡ None = rw e at none in cc
     by false e rest = rw e (ap (λ groups. lent_group entry ∷ groups) (rest (rw e at none)))
 

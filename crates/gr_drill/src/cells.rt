@@ -37,11 +37,7 @@ pub(crate) fn count_cell<'a, R: Rows>(
 }
 
 // The record that is referred to, where it is there.
-fn reference_key<R: Rows>(
-    rows: &R,
-    to: Option<TableNo>,
-    id: RecordId,
-) -> Option<LentKey<'static>>
+fn reference_key<R: Rows>(rows: &R, to: Option<TableNo>, id: RecordId) -> Option<LentKey<'static>>
     ensures { option_map lent result ≡ reference_key (R.tables rows.now) to id }
 {
     let table = to?;

@@ -64,18 +64,17 @@ const TEXT: Shape = Shape {
     reference: false,
 };
 
-/// The record, the number or the length of the text that a group has in common.
-fn shown(key: &GroupKey) -> i128 {
+/// The record or the length of the text that a group has in common; none where it is something else.
+fn shown(key: &GroupKey) -> Option<u64> {
     match key {
-        GroupKey::Ref(_, id) => i128::from(id.0),
-        GroupKey::Number(number) => *number,
-        GroupKey::Text(text) => text.as_slice().len() as i128,
-        GroupKey::Truth(_) => -1,
+        GroupKey::Ref(_, id) => Some(u64::from(id.0)),
+        GroupKey::Text(text) => Some(text.as_slice().len() as u64),
+        GroupKey::Number(_) | GroupKey::Truth(_) => None,
     }
 }
 
 /// The groups of the hits 2, 1 and 2, each with its count.
-fn found(alloc: Global, path: &Path) -> Result<Vec<(i128, u32)>, NoMemory> {
+fn found(alloc: Global, path: &Path) -> Result<Vec<(Option<u64>, u32)>, NoMemory> {
     let hits = [(RecordId(2), 1), (RecordId(1), 1), (RecordId(2), 1)];
     let mut found = Vec::new(alloc);
     for group in groups(alloc, &LINKS, &hits, path)?.as_slice() {
@@ -85,28 +84,26 @@ fn found(alloc: Global, path: &Path) -> Result<Vec<(i128, u32)>, NoMemory> {
 }
 
 #[test]
-fn each_element_counts_and_a_dead_reference_does_not(rt: HostRuntime) -> Result<(), Fail> {
+fn each_element_counts_and_no_dead_reference(rt: HostRuntime) -> Result<(), Fail> {
     let shape = Shape {
         list: true,
         of: DataType::ShortText,
         reference: true,
     };
-    let path = path_to(rt.alloc(), Field::Column(ColumnNo(0)), shape, Some(TableNo(0)));
+    let path = path_to(
+        rt.alloc(),
+        Field::Column(ColumnNo(0)),
+        shape,
+        Some(TableNo(0)),
+    );
     let found = found(rt.alloc(), &path)?;
-    assert_eq!(rt; found.as_slice(), [(2, 6), (1, 3)].as_slice());
-    Ok(())
-}
-
-#[test]
-fn groups_come_by_first_appearance(rt: HostRuntime) -> Result<(), Fail> {
-    let found = found(rt.alloc(), &path_to(rt.alloc(), Field::Id, TEXT, None))?;
-    assert_eq!(rt; found.as_slice(), [(2, 2), (1, 1)].as_slice());
+    assert_eq!(rt; found.as_slice(), [(Some(2), 6), (Some(1), 3)].as_slice());
     Ok(())
 }
 
 #[test]
 fn a_text_key_that_is_not_there_counts_as_the_empty_text(rt: HostRuntime) -> Result<(), Fail> {
     let found = found(rt.alloc(), &path_to(rt.alloc(), Field::Key, TEXT, None))?;
-    assert_eq!(rt; found.as_slice(), [(0, 3)].as_slice());
+    assert_eq!(rt; found.as_slice(), [(Some(0), 3)].as_slice());
     Ok(())
 }
