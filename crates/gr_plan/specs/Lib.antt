@@ -1,3 +1,4 @@
 pub mod Scan
 pub mod Masks
 pub mod Inside
+pub mod Dev

@@ -1,6 +1,6 @@
 // Comparisons of a column with a number, a block at a time.
 ghost use Rattle.std.specs.Prelude.{◌≡◌, ◌<◌, ◌≤◌, ◌+◌, ◌*◌, ◌^◌, ℕ, true, false, IfSome, Some};
-ghost use Rattle.gr_columns.specs.declared.places.TheConstants.{BLOCK_CELLS};
+ghost use Rattle.gr_plan.specs.declared.blocks.TheConstants.{BLOCK_CELLS};
 ghost use Rattle.gr_expr.specs.Inside.Parts.{FitsTerm};
 ghost use Rattle.gr_expr.specs.Score.{end_cmp, holds, is_between, worth_of};
 ghost use Rattle.gr_expr.specs.declared.typed.Literal.{Literal};
@@ -10,7 +10,7 @@ ghost use Rattle.gr_plan.specs.Inside.Planes.{IsWhere};
 
 use crate::Blocks;
 use gr_base::{Cmp, ColumnNo, RecordId, TableNo};
-use gr_columns::BLOCK_CELLS;
+use crate::blocks::BLOCK_CELLS;
 use gr_expr::{Literal, Rows, Term};
 use gr_values::Field;
 
@@ -29,20 +29,20 @@ pub(crate) fn alive<R: Rows>(rows: &R, table: TableNo, block: u32) -> u64
 }
 
 // The number that a term writes.
-fn number_of(term: &Term) -> Option<i128>
-    ensures { IfSome result (λ number. term.now ≡ term.Literal (Literal.Number number)) }
+fn number_of(of: &Term) -> Option<i128>
+    ensures { IfSome result (λ number. of.now ≡ term.Literal (Literal.Number number)) }
 {
-    match term {
+    match of {
         Term::Literal(Literal::Number(number)) => Some(*number),
         _ => None,
     }
 }
 
 // The column of the table itself that a term reads, where that holds no references.
-fn column_of(table: TableNo, term: &Term) -> Option<ColumnNo>
-    ensures { IfSome result (ReadsColumn table term.now) }
+fn column_of(table: TableNo, of: &Term) -> Option<ColumnNo>
+    ensures { IfSome result (ReadsColumn table of.now) }
 {
-    match term {
+    match of {
         Term::Cell(path) => {
             if path.table.0 != table.0
                 || !path.through.as_slice().is_empty()
@@ -83,14 +83,14 @@ fn column_mask<B: Blocks>(
     rows: &B,
     table: TableNo,
     block: u32,
-    term: &Term,
+    of: &Term,
     cmp: Cmp,
     number: i128,
 ) -> Option<u64>
-    requires { FitsTerm (B.tables rows.now) term.now }
-    ensures { IfSome result (IsWhere (B.tables rows.now) table block (λ id. holds cmp (worth_of (B.tables rows.now) id term.now) (Some (Literal.Number number)))) }
+    requires { FitsTerm (B.tables rows.now) of.now }
+    ensures { IfSome result (IsWhere (B.tables rows.now) table block (λ id. holds cmp (worth_of (B.tables rows.now) id of.now) (Some (Literal.Number number)))) }
 {
-    rows.mask(table, column_of(table, term)?, block, cmp, number)
+    rows.mask(table, column_of(table, of)?, block, cmp, number)
 }
 
 /// The records of a block at which a comparison holds.
@@ -122,7 +122,7 @@ pub(crate) fn between<B: Blocks>(
     high: (&Term, bool),
 ) -> Option<u64>
     requires { FitsTerm (B.tables rows.now) middle.now }
-    ensures { IfSome result (IsWhere (B.tables rows.now) table block (λ id. is_between (worth_of (B.tables rows.now) id middle.now) (worth_of (B.tables rows.now) id low.0.now) low.1 (worth_of (B.tables rows.now) id high.0.now) high.1)) }
+    ensures { IfSome result (IsWhere (B.tables rows.now) table block (λ id. is_between (worth_of (B.tables rows.now) id middle.now) (worth_of (B.tables rows.now) id low.entry.0.now) low.entry.1 (worth_of (B.tables rows.now) id high.entry.0.now) high.entry.1)) }
 {
     let least = number_of(low.0)?;
     let greatest = number_of(high.0)?;

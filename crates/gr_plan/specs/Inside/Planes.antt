@@ -3,7 +3,7 @@ use Rattle.std.specs.Prelude.{◌≡◌, ◌<◌, ◌+◌, ◌*◌, ℕ, zero, s
 use Rattle.std.specs.Int.{bit_at}
 use Rattle.gr_base.specs.declared.numbers.RecordId.{RecordId}
 use Rattle.gr_base.specs.declared.numbers.TableNo.{TableNo}
-use Rattle.gr_columns.specs.declared.places.TheConstants.{BLOCK_CELLS}
+use Rattle.gr_plan.specs.declared.blocks.TheConstants.{BLOCK_CELLS}
 use Rattle.gr_expr.specs.Seeks.{one_if}
 use Rattle.gr_expr.specs.Tables.{Records, record_id, record_in, records_of}
 use Rattle.gr_hits.specs.Hits.{Hit}
@@ -27,6 +27,6 @@ abbrev pub IsWhere : List Records → TableNo → ℕ → (RecordId → Bool) �
 IsWhere tables table block holds mask = (place : ℕ) → place < BLOCK_CELLS → bit_at mask place ≡ score_if_there (records_of tables table) (λ id. one_if (holds id)) (BLOCK_CELLS * block + place)
 
 -- the hits at the first so many places of a block that begins with this id
-abbrev pub hits_in : ℕ → Planes → ℕ → List Hit
+unfoldable pub hits_in : ℕ → Planes → ℕ → List Hit
 hits_in first planes zero = []
 hits_in first planes (suc count) = hits_in first planes count ++ hit_of (record_id (first + count)) (score_in planes count)
