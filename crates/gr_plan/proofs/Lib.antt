@@ -3,5 +3,6 @@ mod FitsLemmas
 mod LeafLemmas
 mod MarkLemmas
 mod PlaneLemmas
+mod SampleLemmas
 mod ScanLemmas
 mod ScoreLemmas

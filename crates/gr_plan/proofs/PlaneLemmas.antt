@@ -1,6 +1,6 @@
 -- Scores by their binary digits.
 use Rattle.std.proofs.Common.{◌≡◌, ℕ, zero, suc, ◌+◌, ◌-◌, ◌*◌, ◌%◌, ◌<◌, ◌≤◌, ◌^◌, min, Bool, true, false, inl, inr, refl, sym, ap, subst, ◌∙◌, arith, bit_and, bit_or, bit_xor}
-use Rattle.std.specs.Prelude.{is_some, nat_lt, ◌==◌, ◌&&◌, if◌then◌else◌, IsBitSet, IsTrue, ◌↔◌}
+use Rattle.std.specs.Prelude.{nat_lt, ◌==◌, ◌&&◌, if◌then◌else◌, IsBitSet, IsTrue, ◌↔◌}
 use Rattle.std.specs.Int.{bit_at, bit_not, w64}
 use Rattle.std.proofs.lemmas.Bool.{cases_eq, eq-eqb, le-ltb, lt-ltb, ne_eqb}
 use Rattle.std.proofs.lemmas.Nat.{bit_set_by_shift}
@@ -10,8 +10,7 @@ use Rattle.gr_expr.specs.declared.Join.TheVariants.{And, Or, Without}
 use Rattle.gr_expr.specs.Score.{joined}
 use Rattle.gr_expr.specs.Seeks.{capped, one_if}
 use Rattle.gr_plan.specs.declared.planes.Planes.{Planes}
-use Rattle.gr_expr.specs.Tables.{Records, record_in}
-use Rattle.gr_plan.specs.Inside.Planes.{score_if_there, score_in}
+use Rattle.gr_plan.specs.Inside.Planes.{score_in}
 
 -- a bit that stands for a truth
 pub bit_is : (n k : ℕ) (holds : Bool) → (IsBitSet n k ↔ IsTrue holds) → bit_at n k ≡ one_if holds
@@ -80,28 +79,33 @@ within-unset planes mask place unset =
 pub not-is : (mask place : ℕ) → mask < 2 ^ 64 → place < 64 → bit_at (bit_not w64 mask) place ≡ 1 - bit_at mask place
 not-is mask place fits within = bit_at_not w64 mask place fits within
 
--- which records of a block are there, looked at one by one
+-- a mask made bit by bit
 
--- the bits of the first so many places are right, and no other is set
-pub record AreAlive (records : Records) (first : ℕ) (mask seen : ℕ) : Type 0 where
-  pub right : (place : ℕ) → place < seen → bit_at mask place ≡ score_if_there records (λ id. 1) (first + place)
+-- the first so many bits are right, and no other is set
+pub record AreBits (holds : ℕ → Bool) (mask seen : ℕ) : Type 0 where
+  pub right : (place : ℕ) → place < seen → bit_at mask place ≡ one_if (holds place)
   pub rest : (place : ℕ) → seen ≤ place → bit_at mask place ≡ 0
 
-module _ (records : Records) (first : ℕ) (mask seen : ℕ) (within : seen < 64) (are : AreAlive records first mask seen) where
-  pub AreAlive-set : is_some (record_in records (first + seen)) ≡ true → AreAlive records first (bit_or mask (1 * 2 ^ seen % 2 ^ 64)) (seen + 1)
-  AreAlive-set there = record {
+module _ (holds : ℕ → Bool) (mask seen : ℕ) (within : seen < 64) (are : AreBits holds mask seen) where
+  pub AreBits-set : holds seen ≡ true → AreBits holds (bit_or mask (1 * 2 ^ seen % 2 ^ 64)) (seen + 1)
+  AreBits-set here = record {
     right = λ place below. elim (cases_eq place seen) [
-      | inl last ↦ rw (last, there) (bit_at_set_same w64 mask seen within)
+      | inl last ↦ rw (last, here) (bit_at_set_same w64 mask seen within)
       | inr other ↦ bit_at_set_other w64 mask seen within place other ∙ are.right place (omega (arith, below, other))
     ];
     rest = λ place above. bit_at_set_other w64 mask seen within place (λ last. omega (arith, above, last)) ∙ are.rest place (omega (arith, above));
   }
 
-  pub AreAlive-passed : is_some (record_in records (first + seen)) ≡ false → AreAlive records first mask (seen + 1)
-  AreAlive-passed dead = record {
+  pub AreBits-passed : holds seen ≡ false → AreBits holds mask (seen + 1)
+  AreBits-passed not_here = record {
     right = λ place below. elim (cases_eq place seen) [
-      | inl last ↦ rw (last, dead) (are.rest seen (omega arith))
+      | inl last ↦ rw (last, not_here) (are.rest seen (omega arith))
       | inr other ↦ are.right place (omega (arith, below, other))
     ];
     rest = λ place above. are.rest place (omega (arith, above));
   }
+
+-- a bit that is a truth is set where that holds
+pub is_set : (n k : ℕ) (holds : Bool) → bit_at n k ≡ one_if holds → IsBitSet n k ↔ IsTrue holds
+is_set n k true is = (λ set. refl, λ holds. (bit_set_by_shift n k).0 (shr_and_one n k ∙ is))
+is_set n k false is = (λ set. let one : bit_at n k ≡ 1 = sym (shr_and_one n k) ∙ (bit_set_by_shift n k).1 set in absurd (omega (arith, one, is)), λ holds. absurd (cc))
