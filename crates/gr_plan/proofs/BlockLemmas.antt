@@ -7,7 +7,7 @@ use Rattle.std.specs.List.{AllByRecursion}
 use Rattle.gr_expr.specs.declared.Arith.{Arith}
 use Rattle.gr_base.specs.declared.numbers.RecordId.{RecordId}
 use Rattle.gr_base.specs.declared.numbers.TableNo.{TableNo}
-use Rattle.gr_plan.specs.declared.blocks.TheConstants.{BLOCK_CELLS}
+use Rattle.gr_columns.specs.declared.places.TheConstants.{BLOCK_CELLS}
 use Rattle.gr_expr.specs.declared.Join.{Join}
 use Rattle.gr_expr.specs.declared.Join.TheVariants.{And, Or, Without}
 use Rattle.gr_expr.specs.declared.typed.CombinedTerm.{CombinedTerm}

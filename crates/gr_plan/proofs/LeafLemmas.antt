@@ -16,8 +16,8 @@ use Rattle.gr_base.specs.declared.compare.Cmp.TheVariants.{Eq, Ne, Lt, Le, Gt, G
 use Rattle.gr_base.specs.declared.numbers.ColumnNo.{ColumnNo}
 use Rattle.gr_base.specs.declared.numbers.RecordId.{RecordId}
 use Rattle.gr_base.specs.declared.numbers.TableNo.{TableNo}
-use Rattle.gr_plan.specs.declared.blocks.TheConstants.{BLOCK_CELLS}
-use Rattle.gr_plan.specs.Dev.{compares_cell}
+use Rattle.gr_columns.specs.declared.places.TheConstants.{BLOCK_CELLS}
+use Rattle.gr_columns.specs.Masks.{compares_cell}
 use Rattle.gr_expr.specs.declared.typed.Literal.{Literal}
 use Rattle.gr_expr.specs.declared.typed.Expr.TheOpen.{Term-F}
 use Rattle.gr_expr.specs.declared.typed.Term.{Term, fold-roll-Term, out-Term, out-roll-Term}
@@ -30,7 +30,7 @@ use Rattle.gr_expr.specs.Seeks.{one_if}
 use Rattle.gr_expr.specs.Tables.{Record, Records, cell_at, record_id, record_in, records_of}
 use Rattle.gr_expr.specs.Values.{Worth, cell_worth, path_worth}
 use Rattle.gr_expr.proofs.Opening.{term_layer}
-use Rattle.gr_plan.specs.Dev.{compares_in}
+use Rattle.gr_table.specs.Masks.{compares_in}
 use Rattle.gr_values.specs.declared.path.Field.{Field}
 use Rattle.gr_values.specs.declared.path.Path.{Path}
 use Rattle.gr_values.specs.declared.value.Cell.{Cell}

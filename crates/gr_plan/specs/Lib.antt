@@ -1,4 +1,3 @@
 pub mod Scan
 pub mod Masks
 pub mod Inside
-pub mod Dev

@@ -3,9 +3,9 @@ use Rattle.std.specs.Prelude.{◌<◌, ◌+◌, ◌*◌, ◌^◌, ◌↔◌, ℕ
 use Rattle.gr_base.specs.declared.compare.Cmp.{Cmp}
 use Rattle.gr_base.specs.declared.numbers.ColumnNo.{ColumnNo}
 use Rattle.gr_base.specs.declared.numbers.TableNo.{TableNo}
-use Rattle.gr_plan.specs.declared.blocks.TheConstants.{BLOCK_CELLS}
+use Rattle.gr_columns.specs.declared.places.TheConstants.{BLOCK_CELLS}
 use Rattle.gr_expr.specs.Tables.{Records, records_of}
-use Rattle.gr_plan.specs.Dev.{compares_in}
+use Rattle.gr_table.specs.Masks.{compares_in}
 
 -- each bit of the mask says whether the record at its place in the block is there and holds a whole number that compares so, and no bit is above them
 pub record IsMask (tables : List Records) (table : TableNo) (column : ColumnNo) (block : ℕ) (cmp : Cmp) (against : ℤ) (mask : ℕ) : Type 0 where

@@ -4,6 +4,7 @@ ghost use Rattle.gr_plan.specs.Masks.{IsMask};
 
 use gr_base::{Cmp, ColumnNo, TableNo};
 use gr_expr::Rows;
+use gr_root::Root;
 
 /// Rows of which a column's whole numbers may be compared 64 at a time. No call takes memory.
 pub trait Blocks: Rows {
@@ -20,5 +21,15 @@ pub trait Blocks: Rows {
         ensures { IfSome result (IsMask (Self.tables self.now) table column block cmp against) };
 }
 
-/// Dev.
-pub const BLOCK_CELLS: u32 = 64;
+impl Blocks for Root {
+    fn mask(
+        &self,
+        table: TableNo,
+        column: ColumnNo,
+        block: u32,
+        cmp: Cmp,
+        against: i128,
+    ) -> Option<u64> {
+        Root::mask(self, table, column, block, cmp, against)
+    }
+}

@@ -1,6 +1,6 @@
 // Comparisons of a column with a number, a block at a time.
 ghost use Rattle.std.specs.Prelude.{◌≡◌, ◌<◌, ◌≤◌, ◌+◌, ◌*◌, ◌^◌, ℕ, true, false, IfSome, Some};
-ghost use Rattle.gr_plan.specs.declared.blocks.TheConstants.{BLOCK_CELLS};
+ghost use Rattle.gr_columns.specs.declared.places.TheConstants.{BLOCK_CELLS};
 ghost use Rattle.gr_expr.specs.Inside.Parts.{FitsTerm};
 ghost use Rattle.gr_expr.specs.Score.{end_cmp, holds, is_between, worth_of};
 ghost use Rattle.gr_expr.specs.declared.typed.Literal.{Literal};
@@ -10,7 +10,7 @@ ghost use Rattle.gr_plan.specs.Inside.Planes.{IsWhere};
 
 use crate::Blocks;
 use gr_base::{Cmp, ColumnNo, RecordId, TableNo};
-use crate::blocks::BLOCK_CELLS;
+use gr_columns::BLOCK_CELLS;
 use gr_expr::{Literal, Rows, Term};
 use gr_values::Field;
 

@@ -1,7 +1,7 @@
 // The scores at the 64 places of a block, by their binary digits, so that two blocks of scores are joined in a few steps.
 ghost use Rattle.std.specs.Prelude.{◌≡◌, ◌<◌, ◌+◌, ◌-◌, ◌*◌, ℕ, min, IfSome};
 ghost use Rattle.std.specs.Int.{bit_at};
-ghost use Rattle.gr_plan.specs.declared.blocks.TheConstants.{BLOCK_CELLS};
+ghost use Rattle.gr_columns.specs.declared.places.TheConstants.{BLOCK_CELLS};
 ghost use Rattle.gr_expr.specs.Score.{joined};
 ghost use Rattle.gr_plan.specs.Inside.Planes.{score_in};
 

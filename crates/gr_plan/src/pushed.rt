@@ -1,12 +1,12 @@
 // The hits of a block, from its scores.
 ghost use Rattle.std.specs.Prelude.{◌≡◌, ◌<◌, ◌≤◌, ◌+◌, ◌*◌, ◌^◌, ◌++◌, OnOk};
 ghost use Rattle.std.specs.List.{AllByRecursion};
-ghost use Rattle.gr_plan.specs.declared.blocks.TheConstants.{BLOCK_CELLS};
+ghost use Rattle.gr_columns.specs.declared.places.TheConstants.{BLOCK_CELLS};
 ghost use Rattle.gr_plan.specs.Inside.Planes.{hits_in};
 
 use crate::planes::{Planes, digit, found, score_at};
 use gr_base::{NoMemory, RecordId};
-use crate::blocks::BLOCK_CELLS;
+use gr_columns::BLOCK_CELLS;
 use gr_hits::HitList;
 
 /// Appends the hits of a block, if it has any.

@@ -2,7 +2,7 @@
 ghost use Rattle.std.specs.Prelude.{◌≡◌, ◌≤◌, ◌+◌, ◌*◌, ◌^◌, ℕ, IfSome, map};
 ghost use Rattle.std.specs.List.{AllByRecursion};
 ghost use Rattle.gr_base.specs.declared.numbers.RecordId.{RecordId};
-ghost use Rattle.gr_plan.specs.declared.blocks.TheConstants.{BLOCK_CELLS};
+ghost use Rattle.gr_columns.specs.declared.places.TheConstants.{BLOCK_CELLS};
 ghost use Rattle.gr_expr.specs.Fits.{Fits};
 ghost use Rattle.gr_expr.specs.Inside.Parts.{FitsJoined};
 ghost use Rattle.gr_expr.specs.Score.{chain_score, joined, joined_of, score_of};

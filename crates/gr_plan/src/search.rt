@@ -8,7 +8,7 @@ use crate::pushed::push_block;
 use crate::scan::looked;
 use crate::scores::scores;
 use gr_base::{NoMemory, TableNo};
-use crate::blocks::BLOCK_CELLS;
+use gr_columns::BLOCK_CELLS;
 use gr_expr::Expr;
 use gr_hits::HitList;
 use std::alloc::Global;

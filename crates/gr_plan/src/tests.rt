@@ -2,7 +2,7 @@
 ghost use Rattle.std.specs.Prelude.{◌≡◌, IfOk, List, false, slice_get};
 ghost use Rattle.std.specs.Option.{option_map, option_map_or};
 ghost use Rattle.gr_base.specs.Compare.{is_met};
-ghost use Rattle.gr_plan.specs.Dev.{compares_cell};
+ghost use Rattle.gr_columns.specs.Masks.{compares_cell};
 ghost use Rattle.gr_expr.specs.Fits.{Fits};
 ghost use Rattle.gr_expr.specs.Tables.{Records, record_at};
 ghost use Rattle.gr_plan.specs.Inside.Samples.{HoldsBytes, numbered, numbers, one_or_zero};
@@ -10,7 +10,7 @@ ghost use Rattle.gr_values.specs.View.{shown};
 
 use crate::{Blocks, hits};
 use gr_base::{Cmp, ColumnNo, ListOf, NoMemory, RecordId, TableNo};
-use crate::blocks::BLOCK_CELLS;
+use gr_columns::BLOCK_CELLS;
 use gr_expr::{Expr, Join, JoinedExpr, Literal, Rows, Term};
 use gr_values::{CellView, DataType, Field, Key, Path, Shape};
 use sqlite_items::{Boxed, Items};

@@ -1,5 +1,5 @@
 use Rattle.std.proofs.Common.{◌*◌, ◌+◌, ℕ, is_some, sym, ◌∙◌}
-use Rattle.gr_plan.specs.declared.blocks.TheConstants.{BLOCK_CELLS}
+use Rattle.gr_columns.specs.declared.places.TheConstants.{BLOCK_CELLS}
 use Rattle.gr_expr.specs.Tables.{record_in, records_of}
 use Rattle.gr_plan.proofs.PlaneLemmas.{AreBits-passed, AreBits-set}
 use Rattle.gr_plan.proofs.leaves.alive.Goals as goal

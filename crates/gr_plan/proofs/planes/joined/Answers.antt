@@ -1,11 +1,6 @@
-use Rattle.std.proofs.Common.{rules, ◌≡◌, ◌<◌, ℕ, ◌-◌, ap, ap₂, min, subst, sym, ◌∙◌}
-use Rattle.std.specs.Prelude.{IfSome}
-use Rattle.std.specs.Int.{bit_at}
-use Rattle.std.proofs.lemmas.Nat.Bits.{bit_at_and, bit_at_not}
+use Rattle.std.proofs.Common.{rules, ◌-◌, ap, ap₂, min, ◌∙◌}
+use Rattle.std.proofs.lemmas.Nat.Bits.{bit_at_and}
 use Rattle.std.proofs.lemmas.Option.{IfSome_then}
-use Rattle.gr_expr.specs.Score.{joined}
-use Rattle.gr_plan.specs.declared.blocks.TheConstants.{BLOCK_CELLS}
-use Rattle.gr_plan.specs.declared.planes.Planes.{Planes}
 use Rattle.gr_plan.specs.Inside.Planes.{score_in}
 use Rattle.gr_plan.proofs.PlaneLemmas.{joined-and, joined-without, not-is, score_in-most}
 use Rattle.gr_plan.proofs.planes.joined.Goals as goal

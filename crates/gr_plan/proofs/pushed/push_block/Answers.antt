@@ -3,7 +3,7 @@ use Rattle.std.specs.Int.{bit_at}
 use Rattle.std.specs.List.{AllByRecursion}
 use Rattle.std.proofs.lemmas.Nat.Bits.{bit_at-zero}
 use Rattle.gr_hits.specs.Hits.{Hit}
-use Rattle.gr_plan.specs.declared.blocks.TheConstants.{BLOCK_CELLS}
+use Rattle.gr_columns.specs.declared.places.TheConstants.{BLOCK_CELLS}
 use Rattle.gr_plan.specs.Inside.Planes.{score_in}
 use Rattle.gr_plan.proofs.ScanLemmas.{hits_in-found, hits_in-later, hits_in-none, hits_in-passed, hits_in-start}
 use Rattle.gr_plan.proofs.pushed.push_block.Goals as goal

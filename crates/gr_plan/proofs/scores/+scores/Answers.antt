@@ -1,5 +1,5 @@
 -- What a call wants of its part of the condition follows from what the whole one wants.
-use Rattle.std.proofs.Common.{rules, List, ℕ, ap, ap₂, get_or, map, subst, sym, take, ◌+◌, ◌∙◌}
+use Rattle.std.proofs.Common.{rules, List, ℕ, ap, ap₂, map, subst, sym, take, ◌+◌, ◌∙◌}
 use Rattle.std.specs.Prelude.{◌==◌}
 use Rattle.std.specs.List.{AllByRecursion}
 use Rattle.std.proofs.lemmas.List.{take_all}
@@ -16,7 +16,7 @@ use Rattle.gr_expr.specs.Inside.Parts.{FitsJoined}
 use Rattle.gr_expr.specs.Score.{chain_score, holds, is_between, joined, joined_of, score_of, worth_of}
 use Rattle.gr_expr.specs.Seeks.{one_if}
 use Rattle.gr_expr.proofs.Joining.{chain_more, joined_of_is}
-use Rattle.gr_expr.proofs.Opening.{all_at, expr_is, joined_part}
+use Rattle.gr_expr.proofs.Opening.{expr_is, joined_part}
 use Rattle.gr_plan.proofs.BlockLemmas.{AreScores-absent, AreScores-joined, AreScores-once, AreScores-same, score-layer}
 use Rattle.gr_plan.proofs.scores.+scores.Goals as goal
 

@@ -1,6 +1,6 @@
 use Rattle.std.proofs.Common.{◌≡◌, ◌*◌, ◌+◌, arith, subst, sym}
 use Rattle.gr_expr.specs.Tables.{records_of}
-use Rattle.gr_plan.specs.declared.blocks.TheConstants.{BLOCK_CELLS}
+use Rattle.gr_columns.specs.declared.places.TheConstants.{BLOCK_CELLS}
 use Rattle.gr_plan.proofs.ScanLemmas.{AreBelow, AreBelow-block, AreBelow-later}
 use Rattle.gr_plan.proofs.search.by_blocks.Goals as goal
 

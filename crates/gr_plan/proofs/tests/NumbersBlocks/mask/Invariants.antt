@@ -1,7 +1,7 @@
 use Rattle.std.proofs.Common.{◌*◌, ◌+◌}
-use Rattle.gr_plan.specs.declared.blocks.TheConstants.{BLOCK_CELLS}
+use Rattle.gr_columns.specs.declared.places.TheConstants.{BLOCK_CELLS}
 use Rattle.gr_expr.specs.Tables.{records_of}
-use Rattle.gr_plan.specs.Dev.{compares_in}
+use Rattle.gr_table.specs.Masks.{compares_in}
 use Rattle.gr_plan.specs.Inside.Samples.{numbers}
 use Rattle.gr_plan.proofs.PlaneLemmas.{AreBits}
 use Rattle.gr_plan.proofs.tests.NumbersBlocks.mask.Given as goal
