@@ -1,5 +1,5 @@
 -- Small conditions that fit all rows.
-use Rattle.std.proofs.Common.{ℤ, Bool, false, List, [], ◌∷◌, ◌≡◌, None, ap, refl, sym, subst}
+use Rattle.std.proofs.Common.{ℤ, Bool, false, List, [], ◌∷◌, ◌≡◌, None, refl, sym, subst}
 use Rattle.gr_base.specs.declared.compare.Cmp.{Cmp}
 use Rattle.gr_expr.specs.declared.Join.{Join}
 use Rattle.gr_expr.specs.declared.typed.Expr.{Expr, every_made-Expr}
@@ -9,14 +9,11 @@ use Rattle.gr_expr.specs.declared.typed.JoinedExpr.{JoinedExpr, every_made-Joine
 use Rattle.gr_expr.specs.declared.typed.Literal.{Literal}
 use Rattle.gr_expr.specs.declared.typed.Term.{every_made-Term}
 use Rattle.gr_expr.specs.declared.typed.Term.TheVariants as term
-use Rattle.gr_base.specs.declared.numbers.TableNo.{TableNo}
-use Rattle.gr_expr.specs.Fits.{EachCell, AnyCombined, AnyJoined, Fits, FitsExprLayer, FitsPath, FitsTermLayer, IsWritten}
+use Rattle.gr_expr.specs.Fits.{AnyCombined, AnyJoined, Fits, FitsExprLayer, FitsPath, FitsTermLayer, IsWritten}
 use Rattle.gr_expr.specs.Inside.Parts.{FitsJoined, FitsTerm}
 use Rattle.gr_expr.specs.Tables.{Records}
 use Rattle.gr_values.specs.declared.path.Field.{Field}
 use Rattle.gr_values.specs.declared.path.Path.{Path}
-use Rattle.gr_values.specs.Fits.{IsCellOf}
-use Rattle.gr_plan.specs.Inside.Samples.{HoldsBytes, byte}
 
 -- a condition behind what joins it
 abbrev pub link : Join → Expr → JoinedExpr
@@ -52,22 +49,6 @@ module _ (tables : List Records) where
       let right = term.Literal (Literal.Number number) in
       subst (Fits tables) (expr.rolls-Compare cmp left right)
       (every_made-Expr (FitsExprLayer tables) (FitsTermLayer tables) AnyCombined AnyJoined (Expr-F.Compare cmp left right) (Expr-F.Compare cmp (left, Fits-cell path (FitsPath-id path through last to reference)) (right, Fits-literal (Literal.Number number) tt)) refl tt)
-
-  -- a byte in the first column
-  FitsPath-byte : (path : Path) → path.table.0 ≡ 0 → path.through ≡ [] → path.last ≡ Field.Column (record { 0 = 0 }) → path.shape ≡ byte → path.to ≡ None → HoldsBytes tables → FitsPath tables path
-  FitsPath-byte path here through last shape to held = record {
-    hops = rw through tt;
-    field = rw (last, through, shape) (subst (λ (table : TableNo). EachCell tables table (record { 0 = 0 }) (IsCellOf byte)) (ap (λ n. record { 0 = n }) (sym here)) held);
-    target = rw (to, shape) refl;
-  }
-
-  pub Fits-byte : (cmp : Cmp) (path : Path) (number : ℤ) → path.table.0 ≡ 0 → path.through ≡ [] → path.last ≡ Field.Column (record { 0 = 0 }) → path.shape ≡ byte → path.to ≡ None → HoldsBytes tables
-      → Fits tables (expr.Compare cmp (term.Cell path) (term.Literal (Literal.Number number)))
-  Fits-byte cmp path number here through last shape to held =
-      let left = term.Cell path in
-      let right = term.Literal (Literal.Number number) in
-      subst (Fits tables) (expr.rolls-Compare cmp left right)
-      (every_made-Expr (FitsExprLayer tables) (FitsTermLayer tables) AnyCombined AnyJoined (Expr-F.Compare cmp left right) (Expr-F.Compare cmp (left, Fits-cell path (FitsPath-byte path here through last shape to held)) (right, Fits-literal (Literal.Number number) tt)) refl tt)
 
   Fits-link : (join : Join) (of : Expr) → Fits tables of → FitsJoined tables (link join of)
   Fits-link join of fits = every_made-JoinedExpr (FitsExprLayer tables) (FitsTermLayer tables) AnyCombined AnyJoined (record { join = join; of = of }) (record { join = join; of = (of, fits) }) refl tt

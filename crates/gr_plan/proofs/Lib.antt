@@ -3,6 +3,5 @@ mod FitsLemmas
 mod LeafLemmas
 mod MarkLemmas
 mod PlaneLemmas
-mod SampleLemmas
 mod ScanLemmas
 mod ScoreLemmas

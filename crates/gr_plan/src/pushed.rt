@@ -21,7 +21,10 @@ pub(crate) fn push_block(hits: &mut HitList, block: u32, scores: Planes) -> Resu
     }
     for place in 0..BLOCK_CELLS {
         if digit(found, place) == 1 {
-            hits.push(RecordId(BLOCK_CELLS * block + place), score_at(scores, place))?;
+            hits.push(
+                RecordId(BLOCK_CELLS * block + place),
+                score_at(scores, place),
+            )?;
         }
     }
     Ok(())

@@ -8,12 +8,12 @@ use Rattle.gr_plan.proofs.planes.joined.Goals as goal
 pub returns-in-And : goal.returns-in-And
 returns-in-And c = rw c.in-And.is
     (IfSome_then c.sum.result c.sum.ensures (λ made is. λ place below.
-        let left = score_in c.args.left place in
-        let right = score_in c.args.right place in
-        let both = bit_at_and c.found.result c.found-in-And.result place ∙ ap₂ min (c.found.ensures place) (c.found-in-And.ensures place) in
-        is place
-        ∙ joined-and left right _ (score_in c.within.result place) (score_in c.within-in-And.result place) (score_in-most c.args.left place) (score_in-most c.args.right place) both
-        (c.within.ensures.set place) (c.within.ensures.unset place) (c.within-in-And.ensures.set place) (c.within-in-And.ensures.unset place)))
+    let left = score_in c.args.left place in
+    let right = score_in c.args.right place in
+    let both = bit_at_and c.found.result c.found-in-And.result place ∙ ap₂ min (c.found.ensures place) (c.found-in-And.ensures place) in
+    is place
+    ∙ joined-and left right _ (score_in c.within.result place) (score_in c.within-in-And.result place) (score_in-most c.args.left place) (score_in-most c.args.right place) both
+    (c.within.ensures.set place) (c.within.ensures.unset place) (c.within-in-And.ensures.set place) (c.within-in-And.ensures.unset place)))
 
 pub returns-in-Without : goal.returns-in-Without
 returns-in-Without c = rw c.in-Without.is (λ place below.

@@ -31,8 +31,8 @@ next_scores-returns g t c =
     let next = c.args.next.now in
     let other = λ (id : RecordId). score_of tables id next.of in
     IfSome_then c.joined.result c.joined.ensures (λ made is. λ score are.
-        AreScores-same tables c.args.table c.args.block (λ id. joined next.join (score id) (other id)) _ made (λ id. ap (λ (right : Join × ℕ). joined right.0 (score id) right.1) (sym (joined_of_is tables id next)))
-        (AreScores-joined tables c.args.table c.args.block next.join score other c.args.left c.in_ok-right.right made is are c.in_ok-right.ensures))
+    AreScores-same tables c.args.table c.args.block (λ id. joined next.join (score id) (other id)) _ made (λ id. ap (λ (right : Join × ℕ). joined right.0 (score id) right.1) (sym (joined_of_is tables id next)))
+    (AreScores-joined tables c.args.table c.args.block next.join score other c.args.left c.in_ok-right.right made is are c.in_ok-right.ensures))
 
 pub chain-loop-next-preserved : goal.chain-loop-next-preserved
 chain-loop-next-preserved g t c = λ score are.
@@ -43,8 +43,8 @@ chain-loop-next-preserved g t c = λ score are.
     let before = λ (id : RecordId). chain_score (score id) (map (joined_of tables id) (take index rest)) in
     AreScores-same tables c.args.table c.args.block (λ id. joined (joined_of tables id item).0 (before id) (joined_of tables id item).1) (λ id. chain_score (score id) (map (joined_of tables id) (take (index + 1) rest))) c.in_ok-all.all
     (λ id.
-        ap (λ (x : JoinedExpr). joined (joined_of tables id x).0 (before id) (joined_of tables id x).1) c.next-item.is
-        ∙ sym (chain_more (joined_of tables id) (score id) rest index item c.loop-next-test.true))
+    ap (λ (x : JoinedExpr). joined (joined_of tables id x).0 (before id) (joined_of tables id x).1) c.next-item.is
+    ∙ sym (chain_more (joined_of tables id) (score id) rest index item c.loop-next-test.true))
     (c.in_ok-all.ensures before (c.loop-next.invariant score are))
 
 pub chain-returns : goal.chain-returns
@@ -89,11 +89,11 @@ scores-returns-in_ok-first-in-Chain g t c =
     let rest = c.in-Chain.rest in
     let condition = c.args.condition.now in
     IfSome_then c.chain.result c.chain.ensures (λ made is.
-        AreScores-same tables c.args.table c.args.block (λ id. chain_score (score_of tables id c.get.result.now) (map (joined_of tables id) c.as_slice.result.now)) (λ id. score_of tables id condition) made
-        (λ id.
-            ap₂ (λ (first : Expr) (rest : List JoinedExpr). chain_score (score_of tables id first) (map (joined_of tables id) rest)) c.get.ensures c.as_slice.ensures
-            ∙ sym (score-layer tables id condition (Expr-F.Chain first rest) (c.in-Chain.is ∙ sym (expr.rolls-Chain first rest))))
-        (is (λ id. score_of tables id c.get.result.now) c.in_ok-first-in-Chain.ensures))
+    AreScores-same tables c.args.table c.args.block (λ id. chain_score (score_of tables id c.get.result.now) (map (joined_of tables id) c.as_slice.result.now)) (λ id. score_of tables id condition) made
+    (λ id.
+    ap₂ (λ (first : Expr) (rest : List JoinedExpr). chain_score (score_of tables id first) (map (joined_of tables id) rest)) c.get.ensures c.as_slice.ensures
+    ∙ sym (score-layer tables id condition (Expr-F.Chain first rest) (c.in-Chain.is ∙ sym (expr.rolls-Chain first rest))))
+    (is (λ id. score_of tables id c.get.result.now) c.in_ok-first-in-Chain.ensures))
 
 pub scores-returns-in_ok-of-in-Not : goal.scores-returns-in_ok-of-in-Not
 scores-returns-in_ok-of-in-Not g t c =
@@ -102,8 +102,8 @@ scores-returns-in_ok-of-in-Not g t c =
     let condition = c.args.condition.now in
     AreScores-same tables c.args.table c.args.block (λ (id : RecordId). one_if (score_of tables id of == 0)) (λ id. score_of tables id condition) c.absent.result
     (λ id.
-        ap (λ of. one_if (score_of tables id of == 0)) c.get-in-Not.ensures
-        ∙ sym (score-layer tables id condition (Expr-F.Not c.in-Not.of) (c.in-Not.is ∙ sym (expr.rolls-Not c.in-Not.of))))
+    ap (λ of. one_if (score_of tables id of == 0)) c.get-in-Not.ensures
+    ∙ sym (score-layer tables id condition (Expr-F.Not c.in-Not.of) (c.in-Not.is ∙ sym (expr.rolls-Not c.in-Not.of))))
     (AreScores-absent tables c.args.table c.args.block (λ id. score_of tables id of) c.in_ok-of-in-Not.of c.alive-in-Not.result c.absent.result c.absent.ensures c.in_ok-of-in-Not.ensures c.alive-in-Not.ensures)
 
 pub scores-returns-in_ok-compared-in-Compare : goal.scores-returns-in_ok-compared-in-Compare
@@ -128,5 +128,5 @@ scores-returns-in_ok-between-in-Between g t c =
     let met = λ (id : RecordId). is_between (worth_of tables id middle) (worth_of tables id low) c.in-Between.with_low (worth_of tables id high) c.in-Between.with_high in
     AreScores-same tables c.args.table c.args.block (λ (id : RecordId). one_if (met id)) (λ id. score_of tables id condition) c.once-in-Between.result
     (λ id.
-        sym (score-layer tables id condition (Expr-F.Between middle low c.in-Between.with_low high c.in-Between.with_high) (c.in-Between.is ∙ sym (expr.rolls-Between middle low c.in-Between.with_low high c.in-Between.with_high))))
+    sym (score-layer tables id condition (Expr-F.Between middle low c.in-Between.with_low high c.in-Between.with_high) (c.in-Between.is ∙ sym (expr.rolls-Between middle low c.in-Between.with_low high c.in-Between.with_high))))
     (AreScores-once tables c.args.table c.args.block met c.in_ok-between-in-Between.field-0 c.once-in-Between.result c.once-in-Between.ensures c.in_ok-between-in-Between.ensures)
