@@ -1,8 +1,9 @@
 -- The records of a table, seen one by one.
-use Rattle.std.proofs.Common.{◌≡◌, ℕ, ◌+◌, ◌<◌, ◌≤◌, true, false, Option, Some, None, is_some, suc, inl, inr, List, [], ◌∷◌, ◌++◌, length, take, get_or, refl, sym, ap, subst, ◌∙◌, arith, add-one, append-nil, append_assoc}
-use Rattle.std.proofs.lemmas.Bool.{cases_eq, eq-eqb, ne_eqb}
+use Rattle.std.proofs.Common.{◌≡◌, ℕ, zero, ◌+◌, ◌-◌, ◌<◌, ◌≤◌, true, false, Option, Some, None, is_some, suc, inl, inr, List, [], ◌∷◌, ◌++◌, length, take, get_or, refl, sym, ap, ap₂, subst, ◌∙◌, arith, add-one, append-nil, append_assoc}
+use Rattle.std.proofs.lemmas.Bool.{cases_eq, cases_lt, eq-eqb, ne_eqb}
 use Rattle.std.proofs.lemmas.List.{length-take, take_all, take_more}
-use Rattle.std.proofs.lemmas.Option.{slice_get-get_or}
+use Rattle.std.proofs.lemmas.Option.{slice_get-get_or, slice_get_past}
+use Rattle.std.specs.Prelude.{if◌then◌else◌}
 use Rattle.std.specs.List.{AllByRecursion}
 use Rattle.std.specs.Option.{option_flatten}
 use Rattle.gr_base.specs.declared.numbers.RecordId.{RecordId}
@@ -10,6 +11,8 @@ use Rattle.gr_expr.specs.Score.{score_of}
 use Rattle.gr_expr.specs.Tables.{Record, Records, record_id, record_in}
 use Rattle.gr_expr.specs.declared.typed.Expr.{Expr}
 use Rattle.gr_hits.specs.Hits.{Hit}
+use Rattle.gr_plan.specs.declared.planes.Planes.{Planes}
+use Rattle.gr_plan.specs.Inside.Planes.{hits_in, score_if_there, score_in}
 use Rattle.gr_plan.specs.Scan.{hit_of, scan_from}
 
 -- One record
@@ -141,3 +144,116 @@ module _ (tables : List Records) (condition : Expr) (records : Records) where
   -- when all records are seen all hits are
   pub AreSeen-all : (seen : ℕ) (hits : List Hit) → length records ≤ seen → AreSeen tables condition records seen hits → hits ≡ scan_from tables condition 1 records
   AreSeen-all seen hits last are = are.are ∙ ap (scan_from tables condition 1) (take_all seen records last)
+
+-- Records that are seen block by block
+
+-- the hits of the records of all ids below this one
+abbrev pub AreBelow : List Records → Expr → Records → ℕ → List Hit → Type 0
+AreBelow tables condition records id hits = hits ≡ scan_from tables condition 1 (take (id - 1) records)
+
+module _ (tables : List Records) (condition : Expr) (records : Records) where
+  abbrev scored : ℕ → ℕ
+  scored id = score_if_there records (λ id. score_of tables id condition) id
+
+  hit_of-there : (id : ℕ) (found : Option Record) → hit_at tables condition id found ≡ hit_of (record_id id) (if is_some found then score_at tables condition id else 0)
+  hit_of-there id None = refl
+  hit_of-there id (Some found) = refl
+
+  hit_of-past : (seen : ℕ) → length records ≤ seen → hit_of (record_id (suc seen)) (scored (suc seen)) ≡ []
+  hit_of-past seen past = rw (slice_get_past records seen past) refl
+
+  -- the hits of the records below the next id
+  scan_from-more : (id : ℕ) → scan_from tables condition 1 (take (id + 1 - 1) records) ≡ scan_from tables condition 1 (take (id - 1) records) ++ hit_of (record_id id) (scored id)
+  scan_from-more zero = refl
+  scan_from-more (suc seen) =
+      let next : suc seen + 1 - 1 ≡ seen + 1 = omega arith in
+      let here : suc seen - 1 ≡ seen = omega arith in
+      rw (next, here) (elim (cases_lt seen (length records)) [
+        | inr past ↦
+            let most : length records ≤ seen + 1 = omega (arith, past) in
+            rw (take_all (seen + 1) records most, take_all seen records past, hit_of-past seen past) (sym (append-nil (scan_from tables condition 1 records)))
+        | inl below ↦
+            scan_from-next tables condition records seen below
+            ∙ ap (λ id. scan_from tables condition 1 (take seen records) ++ hit_at tables condition id (record_in records id)) (add-one seen)
+            ∙ ap (λ hit. scan_from tables condition 1 (take seen records) ++ hit) (hit_of-there (suc seen) (record_in records (suc seen)))
+      ])
+
+  -- and those of a block
+  pub AreBelow-block : (first : ℕ) (scores : Planes) (hits : List Hit) (count : ℕ) → ((place : ℕ) → place < count → score_in scores place ≡ scored (first + place))
+      → AreBelow tables condition records first hits → AreBelow tables condition records (first + count) (hits ++ hits_in first scores count)
+  unfolding hits_in
+  AreBelow-block first scores hits zero each are = let same : first + 0 ≡ first = omega arith in rw (append-nil hits, same) are
+  AreBelow-block first scores hits (suc count) each are =
+      let id = first + count in
+      let next : first + suc count ≡ id + 1 = omega arith in
+      let before = AreBelow-block first scores hits count (λ place below. each place (omega (arith, below))) are in
+      rw next
+      (sym (append_assoc hits (hits_in first scores count) (hit_of (record_id id) (score_in scores count)))
+      ∙ ap₂ (λ (hits : List Hit) (score : ℕ). hits ++ hit_of (record_id id) score) before (each count (omega arith))
+      ∙ sym (scan_from-more id))
+
+  pub AreBelow-later : (id : ℕ) (hits : List Hit) → AreBelow tables condition records id hits → AllByRecursion (λ (hit : Hit). hit.0.0 < id) hits
+  AreBelow-later zero hits are = rw are tt
+  AreBelow-later (suc seen) hits are =
+      let here : suc seen - 1 ≡ seen = omega arith in
+      subst (AllByRecursion (λ (hit : Hit). hit.0.0 < suc seen)) (sym are)
+      (rw here (scan_from-below tables condition 1 (suc seen) (take seen records) (omega (arith, length-take seen records))))
+
+  pub AreBelow-all : (id : ℕ) (hits : List Hit) → length records < id → AreBelow tables condition records id hits → hits ≡ scan_from tables condition 1 records
+  AreBelow-all id hits last are = are ∙ ap (scan_from tables condition 1) (take_all (id - 1) records (omega (arith, last)))
+
+-- The hits of a block
+
+all_weaker : (low high : ℕ) (hits : List Hit) → low ≤ high → AllByRecursion (λ (hit : Hit). hit.0.0 < low) hits → AllByRecursion (λ (hit : Hit). hit.0.0 < high) hits
+all_weaker low high [] order all = tt
+all_weaker low high (hit ∷ hits) order all = (omega (arith, order, all.0), all_weaker low high hits order all.1)
+
+all_append : (bound : ℕ) (hits more : List Hit) → AllByRecursion (λ (hit : Hit). hit.0.0 < bound) hits → AllByRecursion (λ (hit : Hit). hit.0.0 < bound) more → AllByRecursion (λ (hit : Hit). hit.0.0 < bound) (hits ++ more)
+all_append bound [] more all also = also
+all_append bound (hit ∷ hits) more all also = (all.0, all_append bound hits more all.1 also)
+
+hit_of-below : (bound id score : ℕ) → id < bound → AllByRecursion (λ (hit : Hit). hit.0.0 < bound) (hit_of (record_id id) score)
+hit_of-below bound id score below = elim (cases_eq score 0) [
+  | inl none ↦ rw (hit_of-none (record_id id) score none) tt
+  | inr some ↦ rw (hit_of-some (record_id id) score (omega (arith, some))) (below, tt)
+]
+
+pub hits_in-later : (first : ℕ) (scores : Planes) (hits : List Hit) (count : ℕ) → AllByRecursion (λ (hit : Hit). hit.0.0 < first) hits → AllByRecursion (λ (hit : Hit). hit.0.0 < first + count) (hits ++ hits_in first scores count)
+unfolding hits_in
+hits_in-later first scores hits zero all = let same : first + 0 ≡ first = omega arith in rw (append-nil hits, same) all
+hits_in-later first scores hits (suc count) all =
+    let bound = first + suc count in
+    rw (← append_assoc hits (hits_in first scores count) (hit_of (record_id (first + count)) (score_in scores count)))
+    (all_append bound (hits ++ hits_in first scores count) (hit_of (record_id (first + count)) (score_in scores count))
+    (all_weaker (first + count) bound (hits ++ hits_in first scores count) (omega arith) (hits_in-later first scores hits count all))
+    (hit_of-below bound (first + count) (score_in scores count) (omega arith)))
+
+-- no hit stands where no score is
+pub hits_in-none : (first : ℕ) (scores : Planes) (count : ℕ) → ((place : ℕ) → score_in scores place ≡ 0) → hits_in first scores count ≡ []
+unfolding hits_in
+hits_in-none first scores zero none = refl
+hits_in-none first scores (suc count) none = rw (hits_in-none first scores count none, hit_of-none (record_id (first + count)) (score_in scores count) (none count)) refl
+
+pub hits_in-start : (first : ℕ) (scores : Planes) (hits : List Hit) → hits ≡ hits ++ hits_in first scores 0
+unfolding hits_in
+hits_in-start first scores hits = sym (append-nil hits)
+
+hits_in-more : (first : ℕ) (scores : Planes) (count : ℕ) → hits_in first scores (count + 1) ≡ hits_in first scores count ++ hit_of (record_id (first + count)) (score_in scores count)
+unfolding hits_in
+hits_in-more first scores count = rw add-one refl
+
+module _ (first : ℕ) (scores : Planes) (start hits : List Hit) (count : ℕ) (are : hits ≡ start ++ hits_in first scores count) where
+  one_more : start ++ hits_in first scores (count + 1) ≡ hits ++ hit_of (record_id (first + count)) (score_in scores count)
+  one_more =
+      ap (λ more. start ++ more) (hits_in-more first scores count)
+      ∙ sym (append_assoc start (hits_in first scores count) (hit_of (record_id (first + count)) (score_in scores count)))
+      ∙ ap (λ hits. hits ++ hit_of (record_id (first + count)) (score_in scores count)) (sym are)
+
+  pub hits_in-found : (score : ℕ) → score ≡ score_in scores count → 0 < score → hits ++ (record_id (first + count), score) ∷ [] ≡ start ++ hits_in first scores (count + 1)
+  hits_in-found score is some =
+      sym (one_more
+      ∙ ap (λ score. hits ++ hit_of (record_id (first + count)) score) (sym is)
+      ∙ ap (λ hit. hits ++ hit) (hit_of-some (record_id (first + count)) score some))
+
+  pub hits_in-passed : score_in scores count ≡ 0 → hits ≡ start ++ hits_in first scores (count + 1)
+  hits_in-passed none = sym (one_more ∙ ap (λ hit. hits ++ hit) (hit_of-none (record_id (first + count)) (score_in scores count) none) ∙ append-nil hits)

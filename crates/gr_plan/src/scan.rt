@@ -8,8 +8,8 @@ use gr_expr::{Expr, Rows, score};
 use gr_hits::HitList;
 use std::alloc::Global;
 
-/// The records of a table that a condition finds, by ascending id, with their scores. It looks at each record, and takes room for the hits alone.
-pub fn hits<R: Rows>(
+/// The records of a table that a condition finds, by ascending id, with their scores, by a look at each record.
+pub(crate) fn looked<R: Rows>(
     alloc: Global,
     rows: &R,
     table: TableNo,

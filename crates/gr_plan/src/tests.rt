@@ -3,7 +3,7 @@ ghost use Rattle.std.specs.Prelude.{IfOk, List};
 ghost use Rattle.gr_expr.specs.Fits.{Fits};
 ghost use Rattle.gr_expr.specs.Tables.{Records};
 
-use crate::hits;
+use crate::{Blocks, hits};
 use gr_base::{Cmp, ColumnNo, ListOf, NoMemory, RecordId, TableNo};
 use gr_expr::{Expr, Join, JoinedExpr, Literal, Rows, Term};
 use gr_values::{CellView, DataType, Field, Key, Path, Shape};
@@ -46,6 +46,19 @@ impl Rows for Marks {
         } else {
             RecordId(0)
         }
+    }
+}
+
+impl Blocks for Marks {
+    fn mask(
+        &self,
+        _table: TableNo,
+        _column: ColumnNo,
+        _block: u32,
+        _cmp: Cmp,
+        _against: i128,
+    ) -> Option<u64> {
+        None
     }
 }
 

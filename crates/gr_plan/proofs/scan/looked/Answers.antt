@@ -3,8 +3,8 @@ use Rattle.gr_base.specs.declared.limits.TheConstants.{MOST_SCORE}
 use Rattle.gr_expr.specs.Tables.{record_id, records_of}
 use Rattle.gr_plan.proofs.ScanLemmas.{AreSeen-dead, AreSeen-found, AreSeen-later, AreSeen-passed, score_at}
 use Rattle.gr_plan.proofs.ScoreLemmas.{score_of-most}
-use Rattle.gr_plan.proofs.scan.hits.Goals as goal
-use Rattle.gr_plan.proofs.scan.hits.Goals.{then-is_alive+then-score-gt0+in_ok-push, then-is_alive+else-score-gt0, else-is_alive}
+use Rattle.gr_plan.proofs.scan.looked.Goals as goal
+use Rattle.gr_plan.proofs.scan.looked.Goals.{then-is_alive+then-score-gt0+in_ok-push, then-is_alive+else-score-gt0, else-is_alive}
 
 pub push-requires-clause-later : goal.push-requires-clause-later
 push-requires-clause-later g c =

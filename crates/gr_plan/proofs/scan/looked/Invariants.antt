@@ -1,6 +1,6 @@
 use Rattle.gr_expr.specs.Tables.{records_of}
 use Rattle.gr_plan.proofs.ScanLemmas.{AreSeen}
-use Rattle.gr_plan.proofs.scan.hits.Given as goal
+use Rattle.gr_plan.proofs.scan.looked.Given as goal
 
 -- the records seen so far
 abbrev pub invariant-loop-seen : goal.invariant-loop-seen
