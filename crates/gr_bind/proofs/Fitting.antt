@@ -52,7 +52,7 @@ use Rattle.gr_expr.specs.declared.typed.Term.TheVariants as term
 use Rattle.gr_expr.specs.declared.typed.WeightedLeaf.{WeightedLeaf}
 use Rattle.gr_schema.specs.Fields.{only}
 use Rattle.gr_schema.specs.Paths.{End, is_dot, path_from, path_of, plain_end, role_end}
-use Rattle.gr_schema.specs.Schema.{SchemaDef, column_in, table_at}
+use Rattle.gr_schema.specs.Schema.{Extends, SchemaDef, column_in, table_at}
 use Rattle.gr_schema.specs.declared.definition.TableDef.{TableDef}
 use Rattle.gr_tokens.specs.declared.tokenizer.Tokenizer.{Tokenizer}
 use Rattle.gr_values.specs.Keys.{whole_text}
@@ -107,7 +107,7 @@ hold P (x ∷ xs) all =
     let more = hold P xs all.1 in
     ((x, all.0) ∷ more.0, ap (λ ys. x ∷ ys) more.1)
 
-module _ (db : Db) (fits : IsFitting db) where
+module _ (db : Db) (fits : IsFitting db) (schema : SchemaDef) (grown : Extends db.schema schema) where
   -- an operand fits
   abbrev FitsOperand : Operand → Type 0
   FitsOperand (Operand.Path path) = FitsPath db.tables path
@@ -316,21 +316,21 @@ module _ (db : Db) (fits : IsFitting db) where
       then_ok (λ operand. ok_or (only (is_sought_in path) of.literal) (fault_at TypeMismatch of.at)) of.typed l e
       (λ o was is. fit.written l (only_some (is_sought_in path) of.literal l (there (only (is_sought_in path) of.literal) (fault_at TypeMismatch of.at) l is)))
 
-  search_fits : (seek : Seek) (left right : Part) → FitsPart left → FitsPart right → (o : Operand) → search db.schema seek left right ≡ Ok o → FitsOperand o
+  search_fits : (seek : Seek) (left right : Part) → FitsPart left → FitsPart right → (o : Operand) → search schema seek left right ≡ Ok o → FitsOperand o
   search_fits seek left right fit fit_2 o e =
-      then_ok (λ path. result_map (λ value. Operand.Condition (expr.Seek (leaf db.schema path seek value))) (sought_value path right)) (taken (sought_path seek) left) o e
-      (λ path was e. map_ok (λ value. Operand.Condition (expr.Seek (leaf db.schema path seek value))) (sought_value path right) o e
+      then_ok (λ path. result_map (λ value. Operand.Condition (expr.Seek (leaf schema path seek value))) (sought_value path right)) (taken (sought_path seek) left) o e
+      (λ path was e. map_ok (λ value. Operand.Condition (expr.Seek (leaf schema path seek value))) (sought_value path right) o e
       (λ value found is. subst FitsOperand is
-      (made_seek (leaf db.schema path seek value) (record { path = taken_fits (sought_path seek) (FitsPath db.tables) (sought_fits seek) left fit path was; value = sought_written path right fit_2 value found }))))
+      (made_seek (leaf schema path seek value) (record { path = taken_fits (sought_path seek) (FitsPath db.tables) (sought_fits seek) left fit path was; value = sought_written path right fit_2 value found }))))
 
   -- Names and words
 
-  named_fits : (table : TableNo) (text : List ℕ) (path : Path) → named db.schema table text ≡ Ok path → FitsPath db.tables path
-  named_fits table text path e = path_of-fits db fits table text path (there (path_of db.schema table text) (fault_named NoSuchColumn text) path e)
+  named_fits : (table : TableNo) (text : List ℕ) (path : Path) → named schema table text ≡ Ok path → FitsPath db.tables path
+  named_fits table text path e = path_of-fits db fits schema grown table text path (there (path_of schema table text) (fault_named NoSuchColumn text) path e)
 
-  path_operand : (table : TableNo) (text : List ℕ) (o : Operand) → result_map Operand.Path (named db.schema table text) ≡ Ok o → FitsOperand o
+  path_operand : (table : TableNo) (text : List ℕ) (o : Operand) → result_map Operand.Path (named schema table text) ≡ Ok o → FitsOperand o
   path_operand table text o e =
-      map_ok Operand.Path (named db.schema table text) o e (λ path was is. subst FitsOperand is (named_fits table text path was))
+      map_ok Operand.Path (named schema table text) o e (λ path was is. subst FitsOperand is (named_fits table text path was))
 
   literal_written : (at : ℕ) (kind : ValueKind) (text : List ℕ) → IsUtf8 text → (l : Literal) → literal_for at kind text ≡ Ok l → IsWritten l
   literal_written at Whole text utf8 l e =
@@ -342,15 +342,15 @@ module _ (db : Db) (fits : IsFitting db) where
   literal_written at Text text utf8 l e = subst IsWritten (same_ok _ _ e) utf8
   literal_written at TextVec text utf8 l e = subst IsWritten (same_ok _ _ e) utf8
 
-  tested_fits : (path : Path) (test : FieldOp) (l : Literal) → FitsPath db.tables path → IsWritten l → Fits db.tables (tested db.schema path test l)
+  tested_fits : (path : Path) (test : FieldOp) (l : Literal) → FitsPath db.tables path → IsWritten l → Fits db.tables (tested schema path test l)
   tested_fits path (FieldOp.Compare cmp) l fit written = made_compare cmp (term.Cell path) (term.Literal l) (made_cell path fit) (made_literal l written)
-  tested_fits path (FieldOp.Find seek) l fit written = made_seek (leaf db.schema path seek l) (record { path = fit; value = written })
+  tested_fits path (FieldOp.Find seek) l fit written = made_seek (leaf schema path seek l) (record { path = fit; value = written })
 
-  field_fits : (table : TableNo) (at : ℕ) (name : List ℕ) (test : FieldOp) (text : List ℕ) → IsUtf8 text → (o : Operand) → field db.schema table at name test text ≡ Ok o → FitsOperand o
+  field_fits : (table : TableNo) (at : ℕ) (name : List ℕ) (test : FieldOp) (text : List ℕ) → IsUtf8 text → (o : Operand) → field schema table at name test text ≡ Ok o → FitsOperand o
   field_fits table at name test text utf8 o e =
-      then_ok (λ path. result_then (λ taken_path. result_map (λ literal. Operand.Condition (tested db.schema taken_path test literal)) (literal_for at (path_kind taken_path) text)) (ok_or (only (is_tested test) (Some path)) (fault_at TypeMismatch at))) (named db.schema table name) o e
-      (λ path was e. then_ok (λ taken_path. result_map (λ literal. Operand.Condition (tested db.schema taken_path test literal)) (literal_for at (path_kind taken_path) text)) (ok_or (only (is_tested test) (Some path)) (fault_at TypeMismatch at)) o e
-      (λ taken_path was_2 e. map_ok (λ literal. Operand.Condition (tested db.schema taken_path test literal)) (literal_for at (path_kind taken_path) text) o e
+      then_ok (λ path. result_then (λ taken_path. result_map (λ literal. Operand.Condition (tested schema taken_path test literal)) (literal_for at (path_kind taken_path) text)) (ok_or (only (is_tested test) (Some path)) (fault_at TypeMismatch at))) (named schema table name) o e
+      (λ path was e. then_ok (λ taken_path. result_map (λ literal. Operand.Condition (tested schema taken_path test literal)) (literal_for at (path_kind taken_path) text)) (ok_or (only (is_tested test) (Some path)) (fault_at TypeMismatch at)) o e
+      (λ taken_path was_2 e. map_ok (λ literal. Operand.Condition (tested schema taken_path test literal)) (literal_for at (path_kind taken_path) text) o e
       (λ literal found is. subst FitsOperand is
       (tested_fits taken_path test literal
       (subst (FitsPath db.tables) (same_Some _ _ (only_some (is_tested test) (Some path) taken_path (there (only (is_tested test) (Some path)) (fault_at TypeMismatch at) taken_path was_2))) (named_fits table name path was))
@@ -378,66 +378,66 @@ module _ (db : Db) (fits : IsFitting db) where
 
   -- Match columns
 
-  end_fits : (table : TableNo) (home : TableDef) (last : Field) (end : End) → table_at db.schema table ≡ Some home → end_at db.schema home last ≡ Some end → FitsEnd db.tables table end
+  end_fits : (table : TableNo) (home : TableDef) (last : Field) (end : End) → table_at schema table ≡ Some home → end_at schema home last ≡ Some end → FitsEnd db.tables table end
   end_fits table home Field.Id end there_is e = absurd (none-some end e)
   end_fits table home Field.Key end there_is e =
       option_map_some (plain_end Field.Key false) home.key end e
-      (λ type keyed is. subst (FitsEnd db.tables table) is (record { field = each_key db fits table home type there_is keyed; target = refl }))
+      (λ type keyed is. subst (FitsEnd db.tables table) is (record { field = each_key db fits schema grown table home type there_is keyed; target = refl }))
   end_fits table home (Field.Column column) end there_is e =
-      option_and_then_some (λ def. role_end db.schema (Field.Column column) def.role) (column_in home column) end e
-      (λ def here e. role_end-fits db fits table home column def def.role end there_is here refl e)
+      option_and_then_some (λ def. role_end schema (Field.Column column) def.role) (column_in home column) end e
+      (λ def here e. role_end-fits db fits schema grown table home column def def.role end there_is here refl e)
 
-  source_fits : (table : TableNo) (weight : ℕ) (tokenizer : Tokenizer) (source : Field) (column : Column) → source_column db.schema table weight tokenizer source ≡ Some column → FitsColumn column
+  source_fits : (table : TableNo) (weight : ℕ) (tokenizer : Tokenizer) (source : Field) (column : Column) → source_column schema table weight tokenizer source ≡ Some column → FitsColumn column
   source_fits table weight tokenizer source column e =
-      option_map_some (λ path. record { weight = weight; path = path; by = by_tokenizer tokenizer }) (field_path db.schema table source) column e
+      option_map_some (λ path. record { weight = weight; path = path; by = by_tokenizer tokenizer }) (field_path schema table source) column e
       (λ path was is. subst FitsColumn is
-      (option_map_some (λ end. path_from table (record { through = []; end = end })) (option_and_then (λ home. end_at db.schema home source) (table_at db.schema table)) path was
+      (option_map_some (λ end. path_from table (record { through = []; end = end })) (option_and_then (λ home. end_at schema home source) (table_at schema table)) path was
       (λ end found same. subst (FitsPath db.tables) same
-      (option_and_then_some (λ home. end_at db.schema home source) (table_at db.schema table) end found
+      (option_and_then_some (λ home. end_at schema home source) (table_at schema table) end found
       (λ home there_is e. path_from-fits db fits table (record { through = []; end = end }) (record { hops = tt; end = end_fits table home source end there_is e }))))))
 
-  index_fits : (table : TableNo) (of : MatchColumn) (cs : List Column) → index_columns db.schema table of ≡ Ok cs → AllByRecursion FitsColumn cs
+  index_fits : (table : TableNo) (of : MatchColumn) (cs : List Column) → index_columns schema table of ≡ Ok cs → AllByRecursion FitsColumn cs
   index_fits table of cs e =
-      option_map_some (λ (index : Tokenizer × List Field). filter_map (source_column db.schema table of.weight index.0) index.1) (index_named db.schema table (slice_split is_dot of.path)) cs
-      (there (option_map (λ (index : Tokenizer × List Field). filter_map (source_column db.schema table of.weight index.0) index.1) (index_named db.schema table (slice_split is_dot of.path))) (fault_named NoSuchColumn of.path) cs e)
-      (λ index was is. subst (AllByRecursion FitsColumn) is (filter_map_all (source_column db.schema table of.weight index.0) FitsColumn (source_fits table of.weight index.0) index.1))
+      option_map_some (λ (index : Tokenizer × List Field). filter_map (source_column schema table of.weight index.0) index.1) (index_named schema table (slice_split is_dot of.path)) cs
+      (there (option_map (λ (index : Tokenizer × List Field). filter_map (source_column schema table of.weight index.0) index.1) (index_named schema table (slice_split is_dot of.path))) (fault_named NoSuchColumn of.path) cs e)
+      (λ index was is. subst (AllByRecursion FitsColumn) is (filter_map_all (source_column schema table of.weight index.0) FitsColumn (source_fits table of.weight index.0) index.1))
 
-  path_column_fits : (of : MatchColumn) (path : Path) → FitsPath db.tables path → (cs : List Column) → path_columns db.schema of path ≡ Ok cs → AllByRecursion FitsColumn cs
+  path_column_fits : (of : MatchColumn) (path : Path) → FitsPath db.tables path → (cs : List Column) → path_columns schema of path ≡ Ok cs → AllByRecursion FitsColumn cs
   path_column_fits of path fit cs e = go (takes_text path) e
     where
-      go : (b : Bool) → cond b (Ok (record { weight = of.weight; path = path; by = by_path db.schema path } ∷ [])) (Err (fault_at TypeMismatch of.at)) ≡ Ok cs → AllByRecursion FitsColumn cs
+      go : (b : Bool) → cond b (Ok (record { weight = of.weight; path = path; by = by_path schema path } ∷ [])) (Err (fault_at TypeMismatch of.at)) ≡ Ok cs → AllByRecursion FitsColumn cs
       go true e = subst (AllByRecursion FitsColumn) (same_ok _ _ e) (fit, tt)
       go false e = absurd (cc)
 
-  column_fits : (table : TableNo) (of : MatchColumn) (cs : List Column) → column_typed db.schema table of ≡ Ok cs → AllByRecursion FitsColumn cs
-  column_fits table of cs e = go (path_of db.schema table of.path) refl e
+  column_fits : (table : TableNo) (of : MatchColumn) (cs : List Column) → column_typed schema table of ≡ Ok cs → AllByRecursion FitsColumn cs
+  column_fits table of cs e = go (path_of schema table of.path) refl e
     where
-      go : (o : Option Path) → path_of db.schema table of.path ≡ o → column_by db.schema table of o ≡ Ok cs → AllByRecursion FitsColumn cs
+      go : (o : Option Path) → path_of schema table of.path ≡ o → column_by schema table of o ≡ Ok cs → AllByRecursion FitsColumn cs
       go None was e = index_fits table of cs e
-      go (Some path) was e = path_column_fits of path (path_of-fits db fits table of.path path was) cs e
+      go (Some path) was e = path_column_fits of path (path_of-fits db fits schema grown table of.path path was) cs e
 
-  columns_fit : (table : TableNo) (ofs : List MatchColumn) (cs : List Column) → columns_typed db.schema table ofs ≡ Ok cs → AllByRecursion FitsColumn cs
+  columns_fit : (table : TableNo) (ofs : List MatchColumn) (cs : List Column) → columns_typed schema table ofs ≡ Ok cs → AllByRecursion FitsColumn cs
   columns_fit table [] cs e = subst (AllByRecursion FitsColumn) (same_ok [] cs e) tt
   columns_fit table (of ∷ ofs) cs e =
-      then_ok (λ first. result_map (λ others. first ++ others) (columns_typed db.schema table ofs)) (column_typed db.schema table of) cs e
-      (λ first was e. map_ok (λ others. first ++ others) (columns_typed db.schema table ofs) cs e
+      then_ok (λ first. result_map (λ others. first ++ others) (columns_typed schema table ofs)) (column_typed schema table of) cs e
+      (λ first was e. map_ok (λ others. first ++ others) (columns_typed schema table ofs) cs e
       (λ others found is. subst (AllByRecursion FitsColumn) is (append_all FitsColumn first others (column_fits table of first was) (columns_fit table ofs others found))))
 
-  given_fits : (table : TableNo) (columns : Option (List MatchColumn)) (given : Option (List Column)) → columns_given db.schema table columns ≡ Ok given → FitsGiven given
+  given_fits : (table : TableNo) (columns : Option (List MatchColumn)) (given : Option (List Column)) → columns_given schema table columns ≡ Ok given → FitsGiven given
   given_fits table None given e = subst FitsGiven (same_ok None given e) tt
-  given_fits table (Some ofs) given e = map_ok Some (columns_typed db.schema table ofs) given e (λ cs was is. subst FitsGiven is (columns_fit table ofs cs was))
+  given_fits table (Some ofs) given e = map_ok Some (columns_typed schema table ofs) given e (λ cs was is. subst FitsGiven is (columns_fit table ofs cs was))
 
   -- The tree
 
   module _ (table : TableNo) (given : Option (List Column)) (columns_fit : FitsGiven given) where
     abbrev FitsTree : Ast → Type 0
-    FitsTree d = IsMade d → FitsPart (part_of db.schema table given d)
+    FitsTree d = IsMade d → FitsPart (part_of schema table given d)
 
     abbrev FitsNext : Combined → Type 0
-    FitsNext d = IsMadeTerm d → FitsPart (combined_of db.schema table given d).1
+    FitsNext d = IsMadeTerm d → FitsPart (combined_of schema table given d).1
 
     abbrev FitsLink : Joined → Type 0
-    FitsLink d = IsMadeLink d → FitsPart (joined_of db.schema table given d).1
+    FitsLink d = IsMadeLink d → FitsPart (joined_of schema table given d).1
 
     abbrev HeldTree : Type 0
     HeldTree = (d : Ast) × FitsTree d
@@ -448,25 +448,25 @@ module _ (db : Db) (fits : IsFitting db) where
     abbrev HeldLink : Type 0
     HeldLink = (d : Joined) × FitsLink d
 
-    trees_fit : (ds : List HeldTree) → AllByRecursion IsMade (map (λ e. e.0) ds) → AllByRecursion FitsPart (map (part_of db.schema table given) (map (λ e. e.0) ds))
+    trees_fit : (ds : List HeldTree) → AllByRecursion IsMade (map (λ e. e.0) ds) → AllByRecursion FitsPart (map (part_of schema table given) (map (λ e. e.0) ds))
     trees_fit [] all = tt
     trees_fit (d ∷ ds) all = (d.1 all.0, trees_fit ds all.1)
 
-    nexts_fit : (ds : List HeldNext) → AllByRecursion IsMadeTerm (map (λ e. e.0) ds) → AllByRecursion (λ next. FitsPart next.1) (map (combined_of db.schema table given) (map (λ e. e.0) ds))
+    nexts_fit : (ds : List HeldNext) → AllByRecursion IsMadeTerm (map (λ e. e.0) ds) → AllByRecursion (λ next. FitsPart next.1) (map (combined_of schema table given) (map (λ e. e.0) ds))
     nexts_fit [] all = tt
     nexts_fit (d ∷ ds) all = (d.1 all.0, nexts_fit ds all.1)
 
-    links_fit : (ds : List HeldLink) → AllByRecursion IsMadeLink (map (λ e. e.0) ds) → AllByRecursion (λ link. FitsPart link.1) (map (joined_of db.schema table given) (map (λ e. e.0) ds))
+    links_fit : (ds : List HeldLink) → AllByRecursion IsMadeLink (map (λ e. e.0) ds) → AllByRecursion (λ link. FitsPart link.1) (map (joined_of schema table given) (map (λ e. e.0) ds))
     links_fit [] all = tt
     links_fit (d ∷ ds) all = (d.1 all.0, links_fit ds all.1)
 
     abbrev flat : Ast-F HeldTree HeldNext HeldLink → Layer
     flat y = map-Ast HeldTree HeldNext HeldLink Ast Combined Joined (λ e. e.0) (λ e. e.0) (λ e. e.0) y
 
-    level_fits : (y : Ast-F HeldTree HeldNext HeldLink) → IsMadeLayer (flat y) → Parts (flat y) → FitsPart (level db.schema table given (flat y))
+    level_fits : (y : Ast-F HeldTree HeldNext HeldLink) → IsMadeLayer (flat y) → Parts (flat y) → FitsPart (level schema table given (flat y))
     level_fits (Ast-F.Chain at first rest) here parts = plain at _ (chain_fits _ _ (first.1 parts.0) (links_fit rest parts.1))
     level_fits (Ast-F.Not at of) here parts = plain at _ (not_fits _ (of.1 parts))
-    level_fits (Ast-F.Minus at of) here parts = record { operand = minus_fits _ (of.1 parts); written = negative_written (part_of db.schema table given of.0).digits }
+    level_fits (Ast-F.Minus at of) here parts = record { operand = minus_fits _ (of.1 parts); written = negative_written (part_of schema table given of.0).digits }
     level_fits (Ast-F.Compare at cmp left right) here parts = plain at _ (comparison_fits cmp _ _ (left.1 parts.0) (right.1 parts.1))
     level_fits (Ast-F.Find at seek left right) here parts = plain at _ (search_fits seek _ _ (left.1 parts.0) (right.1 parts.1))
     level_fits (Ast-F.Calc at first rest) here parts = plain at _ (calculation_fits _ _ (first.1 parts.0) (nexts_fit rest parts.1))
@@ -483,26 +483,25 @@ module _ (db : Db) (fits : IsFitting db) where
     tree_fits : (d : Ast) → FitsTree d
     tree_fits = ind-Ast FitsTree FitsNext FitsLink
         (λ x y is made.
-        subst FitsPart (sym (part_is db.schema table given (roll-Ast x) ∙ ap (level db.schema table given) (out-roll-Ast x)))
-        (subst (λ (z : Layer). FitsPart (level db.schema table given z)) is
+        subst FitsPart (sym (part_is schema table given (roll-Ast x) ∙ ap (level schema table given) (out-roll-Ast x)))
+        (subst (λ (z : Layer). FitsPart (level schema table given z)) is
         (level_fits y
         (subst IsMadeLayer (out-roll-Ast x ∙ sym is) (tree_layer (roll-Ast x) made))
         (subst Parts (out-roll-Ast x ∙ sym is) (tree_parts (roll-Ast x) made)))))
         (λ x y is made.
-        subst (λ (p : Arith × Part). FitsPart p.1) (sym (combined_of_is db.schema table given (roll-Combined x)))
-        (subst (λ (z : TermLayer). IsMade z.of → FitsPart (part_of db.schema table given z.of)) (is ∙ sym (out-roll-Combined x)) y.of.1 (term_part (roll-Combined x) made)))
+        subst (λ (p : Arith × Part). FitsPart p.1) (sym (combined_of_is schema table given (roll-Combined x)))
+        (subst (λ (z : TermLayer). IsMade z.of → FitsPart (part_of schema table given z.of)) (is ∙ sym (out-roll-Combined x)) y.of.1 (term_part (roll-Combined x) made)))
         (λ x y is made.
-        subst (λ (p : Join × Part). FitsPart p.1) (sym (joined_of_is db.schema table given (roll-Joined x)))
-        (subst (λ (z : LinkLayer). IsMade z.of → FitsPart (part_of db.schema table given z.of)) (is ∙ sym (out-roll-Joined x)) y.of.1 (link_part (roll-Joined x) made)))
+        subst (λ (p : Join × Part). FitsPart p.1) (sym (joined_of_is schema table given (roll-Joined x)))
+        (subst (λ (z : LinkLayer). IsMade z.of → FitsPart (part_of schema table given z.of)) (is ∙ sym (out-roll-Joined x)) y.of.1 (link_part (roll-Joined x) made)))
 
-  typed_fits : (table : TableNo) (columns : Option (List MatchColumn)) (tree : Ast) → IsMade tree → (e : Expr) → typed db.schema table columns tree ≡ Ok e → Fits db.tables e
+  typed_fits : (table : TableNo) (columns : Option (List MatchColumn)) (tree : Ast) → IsMade tree → (e : Expr) → typed schema table columns tree ≡ Ok e → Fits db.tables e
   typed_fits table columns tree made e is =
-      then_ok (λ given. condition (part_of db.schema table given tree)) (columns_given db.schema table columns) e is
-      (λ given was is. condition_part (part_of db.schema table given tree) (tree_fits table given (given_fits table columns given was) tree made) e is)
+      then_ok (λ given. condition (part_of schema table given tree)) (columns_given schema table columns) e is
+      (λ given was is. condition_part (part_of schema table given tree) (tree_fits table given (given_fits table columns given was) tree made) e is)
 
 -- what is answered, where it is what is meant
 pub answer_fits : (schema : SchemaDef) (table : TableNo) (columns : Option (List MatchColumn)) (tree : Ast) → IsMade tree → (r : Result Expr (Failure Fault)) → Answers r (typed schema table columns tree)
-    → (db : Db) → db.schema ≡ schema → IsFitting db → IfOk r (Fits db.tables)
-answer_fits schema table columns tree made (Ok e) answers db same fits =
-    typed_fits db fits table columns tree made e (ap (λ s. typed s table columns tree) same ∙ answers.found e refl)
-answer_fits schema table columns tree made (Err f) answers db same fits = tt
+    → (db : Db) → Extends db.schema schema → IsFitting db → IfOk r (Fits db.tables)
+answer_fits schema table columns tree made (Ok e) answers db grown fits = typed_fits db fits schema grown table columns tree made e (answers.found e refl)
+answer_fits schema table columns tree made (Err f) answers db grown fits = tt

@@ -12,6 +12,7 @@ ghost use Rattle.gr_bind.specs.Typing.{columns_given, typed};
 ghost use Rattle.gr_db.specs.Db.{Db};
 ghost use Rattle.gr_db.specs.Fitting.{IsFitting};
 ghost use Rattle.gr_expr.specs.Fits.{Fits};
+ghost use Rattle.gr_schema.specs.Schema.{Extends};
 
 use crate::binder::Binder;
 use crate::column::{Column, columns_typed};
@@ -23,7 +24,7 @@ use std::alloc::Global;
 
 /// What a query or a script means for a table: each name looked up, each literal made, and each operator with operands that it takes; or its first fault. The
 /// match columns come first, then the tree from the left, each operand whole before its operator takes it or refuses it. `TypeMismatch`, `NoMatchColumn` and
-/// `BadNumber` tell a byte place, and `NoSuchColumn` the whole path. What is found can be scored over each database that fits the schema. It takes a time that
+/// `BadNumber` tell a byte place, and `NoSuchColumn` the whole path. What is found can be scored over each database that fits the schema, or one that has grown from it. It takes a time that
 /// grows with the tree, and for each search with the schema's indexes.
 pub fn bind(
     alloc: Global,
@@ -37,7 +38,7 @@ pub fn bind(
     requires made { IsMade tree.now }
     ensures exact { Answers result (typed schema.now table (option_map (λ columns. columns.now) columns.entry) tree.now) }
     ensures utf8 { (why : Fault) → result ≡ Err (Failure.Refused why) → IsUtf8 why.name }
-    ensures fit { (db : Db) → db.schema ≡ schema.now → IsFitting db → IfOk result (Fits db.tables) }
+    ensures fit { (db : Db) → Extends db.schema schema.now → IsFitting db → IfOk result (Fits db.tables) }
 {
     let columns = columns_given(alloc, schema, table, columns)?;
     let binder = Binder {

@@ -10,16 +10,18 @@ use Rattle.std.specs.Prelude.{MatchOption}
 use Rattle.gr_base.specs.declared.numbers.ColumnNo.{ColumnNo}
 use Rattle.gr_base.specs.declared.numbers.RecordId.{RecordId}
 use Rattle.gr_base.specs.declared.numbers.TableNo.{TableNo}
-use Rattle.gr_db.specs.Apply.{apply, column_made, column_wants, id_which, own_id, put, replay, with_blank_column, with_setting}
+use Rattle.gr_db.specs.Apply.{apply, column_made, column_wants, id_if, id_which, own_id, put, replay, with_blank_column, with_setting}
 use Rattle.gr_db.specs.Db.{Db, changed_table, empty, kind_shape, role_shape, without}
-use Rattle.gr_db.specs.Entry.{IsDelete, IsHome, IsKeyFor, IsPut, IsSetting, IsValid, IsWhich}
+use Rattle.gr_db.specs.Entry.{IsDelete, IsDeleteIf, IsHome, IsPut, IsSetting, IsValid, IsWhich}
+use Rattle.gr_db.specs.Keys.{IsKeyFor}
 use Rattle.gr_db.specs.Wants.{Setting, added, all_added, all_wanted, is_there, record_wants, token_wants, wanted}
 use Rattle.gr_db.specs.declared.entry.Change.{Change}
-use Rattle.gr_db.specs.declared.entry.Change.TheVariants.{CreateTable, CreateColumn, Put, Delete, Merge}
+use Rattle.gr_db.specs.declared.entry.Change.TheVariants.{CreateTable, CreateColumn, Put, Delete, DeleteIf, Merge}
 use Rattle.gr_db.specs.declared.entry.Entry.{Entry}
 use Rattle.gr_db.specs.declared.entry.Which.{Which}
 use Rattle.gr_db.specs.declared.entry.Which.TheVariants.{Id, Key as ByKey}
 use Rattle.gr_db.specs.declared.want.Want.{Want}
+use Rattle.gr_expr.specs.declared.typed.Expr.{Expr}
 use Rattle.gr_schema.specs.Paths.{key_type}
 use Rattle.gr_schema.specs.Schema.{Extends, ExtendsTable, SchemaDef, changed_at, column_at, column_in, table_at, table_with, with_column, with_table}
 use Rattle.gr_schema.specs.Wishes.{column_of, table_of}
@@ -162,6 +164,7 @@ apply-extends db (CreateTable wish) = extends-table db.schema (table_of wish)
 apply-extends db (CreateColumn wish) = column-extends db (column_of db.schema wish)
 apply-extends db (Put table key settings) = subst (λ schema. Extends schema db.schema) (sym (put-schema db table key settings)) (extends-itself db.schema)
 apply-extends db (Delete table by) = subst (λ schema. Extends schema db.schema) (sym (delete-schema db table (id_which db table by))) (extends-itself db.schema)
+apply-extends db (DeleteIf table id condition) = subst (λ schema. Extends schema db.schema) (sym (delete-schema db table (id_if db table id condition))) (extends-itself db.schema)
 apply-extends db (Merge table column from to) = extends-itself db.schema
 
 entries-extend : (db : Db) (entries : List Entry) → Extends (fold (λ (db : Db) (entry : Entry). apply db entry.change) db entries).schema db.schema
@@ -266,12 +269,22 @@ module _ (new old : SchemaDef) (grown : Extends new old) where
         which = which-longer is.home home.0 by is.which;
       }
 
+  delete-if-stays : (table : TableNo) (condition : Expr) → IsDeleteIf old table condition → IsDeleteIf new table condition
+  delete-if-stays table condition is =
+      let home = home-stays table is.home is.there in
+      record {
+        home = longer is.home home.0;
+        there = home.1;
+        fits = λ db grows. is.fits db (extends-trans db.schema new old grows grown);
+      }
+
   -- a change that was valid for a schema is valid for each that goes on from it
   pub still-valid : (change : Change) → IsValid old change → IsValid new change
   still-valid (CreateTable wish) valid = tt
   still-valid (CreateColumn wish) valid = tt
   still-valid (Put table key settings) valid = put-stays table key settings valid
   still-valid (Delete table by) valid = delete-stays table by valid
+  still-valid (DeleteIf table id condition) valid = delete-if-stays table condition valid
   still-valid (Merge table column from to) valid = absurd valid
 
 -- a change that was valid after a journal is valid after each longer one

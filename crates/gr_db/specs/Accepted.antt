@@ -6,7 +6,7 @@ use Rattle.gr_base.specs.declared.numbers.TableNo.{TableNo}
 use Rattle.gr_db.specs.Apply.{fault_of, replay}
 use Rattle.gr_db.specs.Entry.{IsValid}
 use Rattle.gr_db.specs.declared.entry.Change.{Change}
-use Rattle.gr_db.specs.declared.entry.Change.TheVariants.{CreateTable, CreateColumn, Put, Delete, Merge}
+use Rattle.gr_db.specs.declared.entry.Change.TheVariants.{CreateTable, CreateColumn, Put, Delete, DeleteIf, Merge}
 use Rattle.gr_db.specs.declared.entry.Entry.{Entry}
 use Rattle.gr_schema.specs.Sound.{IsIndexColumn}
 
@@ -27,6 +27,7 @@ IsAcceptedAfter limits before (CreateTable wish) = IsFaultless limits before (Cr
 IsAcceptedAfter limits before (CreateColumn wish) = IsFaultless limits before (CreateColumn wish)
 IsAcceptedAfter limits before (Put table key settings) = IsFaultless limits before (Put table key settings)
 IsAcceptedAfter limits before (Delete table by) = IsFaultless limits before (Delete table by)
+IsAcceptedAfter limits before (DeleteIf table id condition) = IsFaultless limits before (DeleteIf table id condition)
 IsAcceptedAfter limits before (Merge table column from to) = IsMerge before table column from to
 
 -- each entry of a journal was accepted after those before it

@@ -1,5 +1,5 @@
 -- What an entry does to a database, and why one may be refused.
-use Rattle.std.specs.Prelude.{ℕ, ◌==◌, Bool, false, true, if◌then◌else◌, Option, Some, None, is_some, unwrap_or, List, [], ◌∷◌, ◌++◌, length, map, filter, fold}
+use Rattle.std.specs.Prelude.{ℕ, ◌==◌, nat_lt, ◌&&◌, Bool, false, true, if◌then◌else◌, Option, Some, None, is_some, unwrap_or, List, [], ◌∷◌, ◌++◌, length, map, filter, fold}
 use Rattle.std.specs.Option.{option_and_then, option_map, option_map_or, option_or}
 use Rattle.gr_base.specs.Fault.{fault_named}
 use Rattle.gr_base.specs.declared.fault.Fault.{Fault}
@@ -10,12 +10,14 @@ use Rattle.gr_base.specs.declared.numbers.TableNo.{TableNo}
 use Rattle.gr_db.specs.Db.{Db, changed_in, changed_table, empty, role_shape, with_cell, with_column_of, without}
 use Rattle.gr_db.specs.Wants.{Setting, all_added, all_wanted, column_target, first_full, given_in, new_index_wants, put_wants, record_wants, token_wants}
 use Rattle.gr_db.specs.declared.entry.Change.{Change}
-use Rattle.gr_db.specs.declared.entry.Change.TheVariants.{CreateTable, CreateColumn, Put, Delete, Merge}
+use Rattle.gr_db.specs.declared.entry.Change.TheVariants.{CreateTable, CreateColumn, Put, Delete, DeleteIf, Merge}
 use Rattle.gr_db.specs.declared.entry.Entry.{Entry}
 use Rattle.gr_db.specs.declared.entry.Which.{Which}
 use Rattle.gr_db.specs.declared.entry.Which.TheVariants.{Id, Key as ByKey}
 use Rattle.gr_db.specs.declared.want.Want.{Want}
+use Rattle.gr_expr.specs.Score.{score_of}
 use Rattle.gr_expr.specs.Tables.{id_in, record_at, record_id, records_of}
+use Rattle.gr_expr.specs.declared.typed.Expr.{Expr}
 use Rattle.gr_schema.specs.Schema.{changed_at, column_count, column_no, table_at, with_column, with_table}
 use Rattle.gr_schema.specs.Wishes.{column_fault, column_of, table_fault, table_of}
 use Rattle.gr_schema.specs.declared.definition.ColumnDef.{ColumnDef}
@@ -84,6 +86,14 @@ abbrev pub id_which : Db → TableNo → Which → Option RecordId
 id_which db table (Id id) = if is_some (record_at db.tables table id) then Some id else None
 id_which db table (ByKey key) = id_in (records_of db.tables table) key
 
+-- the record, where it is there and a condition finds it
+abbrev pub id_if : Db → TableNo → RecordId → Expr → Option RecordId
+id_if db table id condition = if is_some (record_at db.tables table id) && nat_lt 0 (score_of db.tables id condition) then Some id else None
+
+-- the database without a record, where there is one to remove
+abbrev pub removed : TableNo → Option RecordId → Db → Db
+removed table found db = option_map_or (λ id. changed_table table (without id.0) db) found db
+
 -- All changes
 
 -- the database after a change; a merge changes nothing
@@ -91,7 +101,8 @@ abbrev pub apply : Db → Change → Db
 apply db (CreateTable wish) = record { schema = with_table db.schema (table_of wish); tables = db.tables ++ [] ∷ [] }
 apply db (CreateColumn wish) = option_map_or (λ made. column_made db made.0 made.1) (column_of db.schema wish) db
 apply db (Put table key settings) = put db table key settings
-apply db (Delete table by) = option_map_or (λ id. changed_table table (without id.0) db) (id_which db table by) db
+apply db (Delete table by) = removed table (id_which db table by) db
+apply db (DeleteIf table id condition) = removed table (id_if db table id condition) db
 apply db (Merge table column from to) = db
 
 -- the database that a journal's entries make, from the one without tables
@@ -125,6 +136,7 @@ change_fault limits db (CreateColumn wish) =
     option_or (column_fault db.schema wish) (option_and_then (λ made. index_fault limits db made.0 made.1) (column_of db.schema wish))
 change_fault limits db (Put table key settings) = full_fault limits db (put_wants db table key settings)
 change_fault limits db (Delete table by) = missing_fault (id_which db table by)
+change_fault limits db (DeleteIf table id condition) = None
 change_fault limits db (Merge table column from to) = None
 
 -- whether a change counts towards the limit of a journal: a merge does not
@@ -133,6 +145,7 @@ counts (CreateTable wish) = true
 counts (CreateColumn wish) = true
 counts (Put table key settings) = true
 counts (Delete table by) = true
+counts (DeleteIf table id condition) = true
 counts (Merge table column from to) = false
 
 -- how many entries of a journal count

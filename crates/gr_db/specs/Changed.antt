@@ -5,11 +5,11 @@ use Rattle.std.specs.List.Sorted.{IsStrictlyIncreasing}
 use Rattle.std.specs.Option.{option_map, option_map_or, option_to_list}
 use Rattle.gr_base.specs.declared.numbers.RecordId.{RecordId}
 use Rattle.gr_base.specs.declared.numbers.TableNo.{TableNo}
-use Rattle.gr_db.specs.Apply.{column_wants, id_which, own_id, replay, with_blank_column}
+use Rattle.gr_db.specs.Apply.{column_wants, id_if, id_which, own_id, replay, with_blank_column}
 use Rattle.gr_db.specs.Db.{Db}
 use Rattle.gr_db.specs.Wants.{Setting, all_added, all_wanted, put_wants}
 use Rattle.gr_db.specs.declared.entry.Change.{Change}
-use Rattle.gr_db.specs.declared.entry.Change.TheVariants.{CreateTable, CreateColumn, Put, Delete, Merge}
+use Rattle.gr_db.specs.declared.entry.Change.TheVariants.{CreateTable, CreateColumn, Put, Delete, DeleteIf, Merge}
 use Rattle.gr_db.specs.declared.entry.Entry.{Entry}
 use Rattle.gr_db.specs.declared.want.Added.{Added}
 use Rattle.gr_schema.specs.Wishes.{column_of}
@@ -40,6 +40,7 @@ touched db (Put table key settings) =
     let wants = put_wants db table key settings in
     map place_of (all_added db wants) ++ own_place (all_wanted db wants) table key settings
 touched db (Delete table by) = option_to_list (option_map (λ id. (table, id)) (id_which db table by))
+touched db (DeleteIf table id condition) = option_to_list (option_map (λ id. (table, id)) (id_if db table id condition))
 touched db (Merge table column from to) = []
 
 -- an entry at this place or a later one touches the record

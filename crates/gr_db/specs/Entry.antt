@@ -4,20 +4,23 @@ use Rattle.std.specs.List.{AllByRecursion}
 use Rattle.std.specs.Option.{option_and_then}
 use Rattle.gr_base.specs.declared.numbers.RecordId.{RecordId}
 use Rattle.gr_base.specs.declared.numbers.TableNo.{TableNo}
+use Rattle.gr_db.specs.Condition.{IsConditionFor}
 use Rattle.gr_db.specs.Db.{role_shape}
+use Rattle.gr_db.specs.Keys.{IsKeyFor}
 use Rattle.gr_db.specs.Wants.{Setting, text_in}
 use Rattle.gr_db.specs.declared.entry.Change.{Change}
-use Rattle.gr_db.specs.declared.entry.Change.TheVariants.{CreateTable, CreateColumn, Put, Delete, Merge}
+use Rattle.gr_db.specs.declared.entry.Change.TheVariants.{CreateTable, CreateColumn, Put, Delete, DeleteIf, Merge}
 use Rattle.gr_db.specs.declared.entry.Which.{Which}
 use Rattle.gr_db.specs.declared.entry.Which.TheVariants.{Id, Key as ByKey}
 use Rattle.gr_db.specs.declared.want.Added.{Added}
 use Rattle.gr_db.specs.declared.want.Want.{Want}
 use Rattle.gr_expr.specs.Tables.{Records, record_at}
+use Rattle.gr_expr.specs.declared.typed.Expr.{Expr}
 use Rattle.gr_schema.specs.Schema.{SchemaDef, column_at, is_lexicon, table_at}
 use Rattle.gr_schema.specs.declared.definition.Role.{Role}
 use Rattle.gr_schema.specs.declared.definition.Role.TheVariants.{Scalar, Vector, Index}
 use Rattle.gr_schema.specs.declared.definition.TableDef.{TableDef}
-use Rattle.gr_values.specs.Fits.{Fits, IsKeyOf}
+use Rattle.gr_values.specs.Fits.{Fits}
 use Rattle.gr_values.specs.declared.path.Field.{Field}
 use Rattle.gr_values.specs.declared.value.Given.{Given}
 use Rattle.gr_values.specs.declared.value.Key.{Key}
@@ -26,11 +29,6 @@ use Rattle.gr_values.specs.declared.value.Key.{Key}
 pub record IsHome (schema : SchemaDef) (table : TableNo) (home : TableDef) : Type 0 where
   pub there : table_at schema table ≡ Some home
   pub plain : is_lexicon home ≡ false
-
--- a key exactly where the table is keyed, and then of its type
-abbrev pub IsKeyFor : TableDef → Option Key → Type 0
-IsKeyFor home None = home.key ≡ None
-IsKeyFor home (Some key) = MatchOption home.key ⊥ (λ type. IsKeyOf type key)
 
 -- a setting of a data column of the table, with a value of its shape
 abbrev pub IsSetting : SchemaDef → TableNo → Setting → Type 0
@@ -60,12 +58,19 @@ pub record IsDelete (schema : SchemaDef) (table : TableNo) (by : Which) : Type 0
   pub there : IsHome schema table home
   pub which : IsWhich home by
 
+-- a deletion by a condition fits where its table is there and no lexicon, and the condition fits the schema and those that go on from it
+pub record IsDeleteIf (schema : SchemaDef) (table : TableNo) (condition : Expr) : Type 0 where
+  pub home : TableDef
+  pub there : IsHome schema table home
+  pub fits : IsConditionFor schema condition
+
 -- whether a change fits a schema; one that creates always does, and a merge is no change that a session asks for
 abbrev pub IsValid : SchemaDef → Change → Type 0
 IsValid schema (CreateTable wish) = Unit {0}
 IsValid schema (CreateColumn wish) = Unit {0}
 IsValid schema (Put table key settings) = IsPut schema table key settings
 IsValid schema (Delete table by) = IsDelete schema table by
+IsValid schema (DeleteIf table id condition) = IsDeleteIf schema table condition
 IsValid schema (Merge table column from to) = ⊥
 
 -- Texts that can be cut into tokens

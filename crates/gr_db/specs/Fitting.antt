@@ -5,7 +5,7 @@ use Rattle.gr_base.specs.declared.numbers.ColumnNo.{ColumnNo}
 use Rattle.gr_base.specs.declared.numbers.RecordId.{RecordId}
 use Rattle.gr_base.specs.declared.numbers.TableNo.{TableNo}
 use Rattle.gr_db.specs.Db.{Db, role_shape}
-use Rattle.gr_db.specs.Entry.{IsKeyFor}
+use Rattle.gr_db.specs.Keys.{IsKeyFor}
 use Rattle.gr_expr.specs.Tables.{Record, record_at}
 use Rattle.gr_schema.specs.Schema.{SchemaDef, column_in, table_at}
 use Rattle.gr_schema.specs.Sound.{IsSound}

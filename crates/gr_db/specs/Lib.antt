@@ -1,5 +1,7 @@
 pub mod Db
 pub mod Wants
+pub mod Keys
+pub mod Condition
 pub mod Entry
 pub mod Apply
 pub mod Accepted

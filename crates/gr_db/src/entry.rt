@@ -1,4 +1,5 @@
 // Entries of the journal.
+use crate::SharedExpr;
 use gr_base::{ColumnNo, ListOf, RecordId, SessionNo, TableNo};
 use gr_schema::{ColumnWish, TableWish};
 use gr_values::{Given, Key};
@@ -37,6 +38,15 @@ pub enum Change {
         table: TableNo,
         /// Which record.
         by: Which,
+    },
+    /// Removes a record where a condition finds it still, and else does nothing.
+    DeleteIf {
+        /// The table.
+        table: TableNo,
+        /// The record.
+        id: RecordId,
+        /// The condition.
+        condition: SharedExpr,
     },
     /// Records that postings of an index were folded, which changes no answer.
     Merge {

@@ -18,9 +18,13 @@ pub struct Journal {
 
 impl Model for Journal {
     ghost use Rattle.std.specs.Prelude.{List};
+    ghost use Rattle.gr_db.specs.contracts.shared_expr.SharedExpr as shared;
     ghost use Rattle.gr_db.specs.declared.entry.Entry.{Entry};
+    ghost use Rattle.std.specs.Coded.{codes};
 
     ghost Value = { List Entry };
+
+    ghost coded = { Prim.hlevel (codes, shared.the_row.coded) };
 
     ghost view = { λ journal. journal.entries };
 }

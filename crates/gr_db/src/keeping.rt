@@ -1,12 +1,13 @@
 // Values as they are kept, and the records that keys and ids stand for.
 ghost use Rattle.std.specs.Prelude.{◌≡◌, ◌∷◌, [], IfOk, OnOk, List, map};
 ghost use Rattle.std.specs.Option.{option_copied};
-ghost use Rattle.gr_db.specs.Apply.{counts, id_of_key, id_which, kept, own_id};
+ghost use Rattle.gr_db.specs.Apply.{counts, id_if, id_of_key, id_which, kept, own_id};
 ghost use Rattle.gr_db.specs.Db.{Db};
+ghost use Rattle.gr_expr.specs.Fits.{Fits};
 
 use crate::{Change, Which};
 use gr_base::{Bytes, Ids, Ints, ListOf, NoMemory, RecordId, TableNo, Texts};
-use gr_expr::Rows;
+use gr_expr::{Expr, Rows, score};
 use gr_values::{Cell, Given, Key};
 use std::alloc::Global;
 
@@ -108,6 +109,18 @@ pub fn id_which<R: Rows>(rows: &R, table: TableNo, by: &Which) -> Option<RecordI
             }
         }
         Which::Key(key) => rows.find(table, key),
+    }
+}
+
+/// The record, where it is there and a condition finds it.
+pub fn id_if<R: Rows>(rows: &R, table: TableNo, id: RecordId, condition: &Expr) -> Option<RecordId>
+    requires { Fits (R.Rows.tables rows.now) condition.now }
+    ensures { (db : Db) → db.tables ≡ R.Rows.tables rows.now → result ≡ id_if db table id condition.now }
+{
+    if rows.is_alive(table, id) && score(rows, id, condition) > 0 {
+        Some(id)
+    } else {
+        None
     }
 }
 

@@ -7,6 +7,7 @@ mod journal;
 mod keeping;
 mod references;
 mod shapes;
+mod shared_expr;
 mod sorted;
 #[cfg(test)]
 mod tests;
@@ -16,8 +17,9 @@ mod want;
 pub use entry::{Change, Entry, Settings, Which};
 pub use index_wants::new_index_wants;
 pub use journal::Journal;
-pub use keeping::{counts, id_which, kept, own_id};
+pub use keeping::{counts, id_if, id_which, kept, own_id};
 pub use references::{column_target, record_wants};
 pub use shapes::shape_of;
+pub use shared_expr::SharedExpr;
 pub use tokens::token_wants;
 pub use want::{Added, Want};

@@ -1,3 +1,6 @@
 pub mod Lent
 pub mod Tally
 pub mod Same
+pub mod Fitting
+pub mod Tokens
+pub mod Legible

@@ -1,2 +1,5 @@
 pub mod Groups
+pub mod Drilldowns
+pub mod Block
+pub mod Fits
 pub mod Inside

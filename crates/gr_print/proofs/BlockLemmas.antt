@@ -25,10 +25,10 @@ use Rattle.gr_values.specs.declared.path.Path.{Path}
 use Rattle.gr_values.specs.declared.value.Given.{Given}
 use Rattle.gr_values.specs.declared.value.Key.{Key}
 
-Shows-number : (z : ℤ) → Shows (number_token z ∷ []) (signed_decimal z)
+pub Shows-number : (z : ℤ) → Shows (number_token z ∷ []) (signed_decimal z)
 Shows-number z = Shows-token (number_token z) (signed_decimal z) refl refl refl
 
-Shows-count : (n : ℕ) → Shows (number (decimal n) ∷ []) (decimal n)
+pub Shows-count : (n : ℕ) → Shows (number (decimal n) ∷ []) (decimal n)
 Shows-count n = Shows-token (number (decimal n)) (decimal n) refl refl refl
 
 pub Shows-string : (s : List ℕ) → Shows (string s ∷ []) (quoted s)
@@ -38,7 +38,7 @@ Shows-key : (key : Key) → Shows (key_token key ∷ []) (key_text key)
 Shows-key (Key.Number z) = Shows-number z
 Shows-key (Key.Text s) = Shows-string s
 
-Shows-truth : (b : Bool) → Shows (boolean b ∷ []) (truth_text b)
+pub Shows-truth : (b : Bool) → Shows (boolean b ∷ []) (truth_text b)
 Shows-truth true = Shows-token (boolean true) (truth_text true) refl refl refl
 Shows-truth false = Shows-token (boolean false) (truth_text false) refl refl refl
 
@@ -62,11 +62,11 @@ Shows-given of (Given.RefList keys) = Shows-list key_token key_text Shows-key ke
 Shows-given of (Given.IntList zs) = Shows-list number_token signed_decimal Shows-number zs
 Shows-given of (Given.TextList texts) = Shows-list string quoted Shows-string texts
 
-Shows-key_or_empty : (of : DataType) (key : Option Key) → Shows (key_or_empty of key ∷ []) (option_map_or key_text key (empty_reference (Some of)))
+pub Shows-key_or_empty : (of : DataType) (key : Option Key) → Shows (key_or_empty of key ∷ []) (option_map_or key_text key (empty_reference (Some of)))
 Shows-key_or_empty of None = Shows-empty of
 Shows-key_or_empty of (Some key) = Shows-key key
 
-Shows-field : (tables : List Records) (id : RecordId) (path : Path) (field : Field) → Shows (field_tokens tables (end_of tables id path) path field) (field_text tables id path field)
+pub Shows-field : (tables : List Records) (id : RecordId) (path : Path) (field : Field) → Shows (field_tokens tables (end_of tables id path) path field) (field_text tables id path field)
 Shows-field tables id path Field.Id = Shows-count _
 Shows-field tables id path Field.Key = Shows-key_or_empty path.shape.of (option_and_then (key_at tables (end_table path)) (end_of tables id path))
 Shows-field tables id path (Field.Column column) = Shows-given path.shape.of _

@@ -10,6 +10,7 @@ use Rattle.gr_base.specs.Fault.{fault_named}
 use Rattle.gr_base.specs.declared.fault.FaultKind.TheVariants.{NoSuchColumn}
 use Rattle.gr_base.specs.declared.numbers.TableNo.{TableNo}
 use Rattle.gr_db.proofs.Fitting.{path_from-fits, path_of-fits, role_end-fits}
+use Rattle.gr_db.proofs.Grows.{extends-itself}
 use Rattle.gr_print.specs.Columns.{all_name, columns_named, data_column, data_columns, data_columns_from, path_column, score_name}
 use Rattle.gr_print.specs.Fits.{IsPrintable}
 use Rattle.gr_print.specs.Inside.Named.{ArePrintable}
@@ -37,7 +38,7 @@ data_column-fits schema table home n def there here utf8 db same fits =
     go there (Some end) e = (
       record {
         name = utf8;
-        item = path_from-fits db fits table (record { through = []; end = end }) (record { hops = tt; end = role_end-fits db fits table home (column_no n) def def.role end there here refl e });
+        item = path_from-fits db fits table (record { through = []; end = end }) (record { hops = tt; end = role_end-fits db fits db.schema (extends-itself db.schema) table home (column_no n) def def.role end there here refl e });
       },
       tt,
     )
@@ -99,7 +100,7 @@ module _ (schema : SchemaDef) (sound : IsSound schema) (table : TableNo) (home :
 -- a path that is named can be printed
 pub path-fits : (schema : SchemaDef) (table : TableNo) (name text : List ℕ) (path : Path) → path_of schema table text ≡ Some path → IsUtf8 name → ArePrintable schema (path_column name path ∷ [])
 path-fits schema table name text path e utf8 db same fits =
-    (record { name = utf8; item = path_of-fits db fits table text path (ap (λ s. path_of s table text) same ∙ e) }, tt)
+    (record { name = utf8; item = path_of-fits db fits db.schema (extends-itself db.schema) table text path (ap (λ s. path_of s table text) same ∙ e) }, tt)
 
 pub score-fits : (schema : SchemaDef) (name : List ℕ) → IsUtf8 name → ArePrintable schema (record { name = name; item = Score } ∷ [])
 score-fits schema name utf8 db same fits = (record { name = utf8; item = tt }, tt)

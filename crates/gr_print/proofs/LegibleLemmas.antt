@@ -34,7 +34,7 @@ utf8-each : (of : DataType) (texts : List (List ℕ)) → AllByRecursion (IsText
 utf8-each of [] all = tt
 utf8-each of (text ∷ texts) all = (utf8-within text (text_limit of) all.0, utf8-each of texts all.1)
 
-IsLegible-cell : (shape : Shape) (cell : Cell) → IsCellOf shape cell → IsLegible cell
+pub IsLegible-cell : (shape : Shape) (cell : Cell) → IsCellOf shape cell → IsLegible cell
 IsLegible-cell shape (Cell.Bool truth) h = tt
 IsLegible-cell shape (Cell.Int number) h = tt
 IsLegible-cell shape (Cell.Text text) h = utf8-within text (text_limit shape.of) h.1

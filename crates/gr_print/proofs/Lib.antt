@@ -1,9 +1,9 @@
-mod BlockLemmas
+pub mod BlockLemmas
 mod DataLemmas
 mod EndLemmas
-mod LegibleLemmas
+pub mod LegibleLemmas
 mod ListedLemmas
 mod NamedLemmas
-mod PrintLemmas
+pub mod PrintLemmas
 mod RowsLemmas
-mod WrittenLemmas
+pub mod WrittenLemmas

@@ -14,11 +14,7 @@ use gr_values::{Field, Path};
 use std::alloc::Global;
 
 /// The data columns of a table, in order of making.
-pub(crate) fn data_columns(
-    alloc: Global,
-    schema: &Schema,
-    table: TableNo,
-) -> Result<OutColumns, NoMemory>
+pub fn data_columns(alloc: Global, schema: &Schema, table: TableNo) -> Result<OutColumns, NoMemory>
     ensures exact { IfOk result (λ columns. columns ≡ data_columns schema.now table) }
     ensures fit { IfOk result (ArePrintable schema.now) }
 {

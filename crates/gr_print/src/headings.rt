@@ -63,8 +63,8 @@ fn item_type<'a>(schema: &'a Schema, item: &OutItem) -> &'a str
     }
 }
 
-// The table that a column refers to, or the type of its values.
-fn path_type<'a>(schema: &'a Schema, path: &Path) -> &'a str
+/// The table that a column refers to, or the type of its values.
+pub fn path_type<'a>(schema: &'a Schema, path: &Path) -> &'a str
     ensures { result.now ≡ path_type schema.now path.now }
 {
     match path.to {

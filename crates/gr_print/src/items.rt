@@ -8,7 +8,7 @@ ghost use Rattle.gr_expr.specs.Paths.{end_table};
 ghost use Rattle.gr_expr.specs.Tables.{cell_at, key_at};
 ghost use Rattle.gr_values.specs.View.{shown};
 ghost use Rattle.gr_print.specs.Fits.{FitsItem, IsPrintable};
-ghost use Rattle.gr_print.specs.Inside.Tokens.{field_tokens, item_tokens, row_tokens};
+ghost use Rattle.gr_print.specs.Inside.Tokens.{field_tokens, item_tokens, path_tokens, row_tokens};
 ghost use Rattle.gr_print.specs.Inside.Legible.{AreKeysLegible};
 ghost use Rattle.gr_print.specs.Shown.{given_of};
 ghost use Rattle.gr_values.specs.Defaults.{default_of};
@@ -54,9 +54,23 @@ fn write_item<R: Rows>(
     ensures { OnOk result (Appends writer.old writer.new (item_tokens (R.tables rows.now) hit item.now)) }
 {
     match item {
-        OutItem::At(path) => write_field(writer, alloc, rows, end_of(rows, hit.0, path), path),
+        OutItem::At(path) => write_path(writer, alloc, rows, hit.0, path),
         OutItem::Score => write_count(writer, u64::from(hit.1)),
     }
+}
+
+/// What stands at a path, read at a record.
+pub fn write_path<R: Rows>(
+    writer: &mut Writer,
+    alloc: Global,
+    rows: &R,
+    id: RecordId,
+    path: &Path,
+) -> Result<(), NoMemory>
+    requires { FitsPath (R.tables rows.now) path.now }
+    ensures { OnOk result (Appends writer.old writer.new (path_tokens (R.tables rows.now) id path.now)) }
+{
+    write_field(writer, alloc, rows, end_of(rows, id, path), path)
 }
 
 // The field of the record at which a path ends.

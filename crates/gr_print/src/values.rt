@@ -17,7 +17,7 @@ use itoa::Buffer;
 use json::Writer;
 
 /// The opening bracket of an array.
-pub(crate) fn open_array(writer: &mut Writer) -> Result<(), NoMemory>
+pub fn open_array(writer: &mut Writer) -> Result<(), NoMemory>
     ensures { OnOk result (Appends writer.old writer.new (begin_array ∷ [])) }
 {
     writer.begin_array()?;
@@ -25,7 +25,7 @@ pub(crate) fn open_array(writer: &mut Writer) -> Result<(), NoMemory>
 }
 
 /// The closing bracket of an array.
-pub(crate) fn close_array(writer: &mut Writer) -> Result<(), NoMemory>
+pub fn close_array(writer: &mut Writer) -> Result<(), NoMemory>
     ensures { OnOk result (Appends writer.old writer.new (end_array ∷ [])) }
 {
     writer.end_array()?;
@@ -33,7 +33,7 @@ pub(crate) fn close_array(writer: &mut Writer) -> Result<(), NoMemory>
 }
 
 /// A number that counts.
-pub(crate) fn write_count(writer: &mut Writer, count: u64) -> Result<(), NoMemory>
+pub fn write_count(writer: &mut Writer, count: u64) -> Result<(), NoMemory>
     ensures { OnOk result (Appends writer.old writer.new (number (decimal count) ∷ [])) }
 {
     writer.u64(count)?;
@@ -65,11 +65,7 @@ pub(crate) fn write_cell<R: Rows>(
 }
 
 /// A key, or an empty reference: the empty text, or null where the keys are numbers.
-pub(crate) fn write_key(
-    writer: &mut Writer,
-    key: Option<&Key>,
-    of: DataType,
-) -> Result<(), NoMemory>
+pub fn write_key(writer: &mut Writer, key: Option<&Key>, of: DataType) -> Result<(), NoMemory>
     requires { IfSome (option_copied key) IsKeyText }
     ensures { OnOk result (Appends writer.old writer.new (key_or_empty of (option_copied key.entry) ∷ [])) }
 {
@@ -102,7 +98,8 @@ fn write_empty(writer: &mut Writer, of: DataType) -> Result<(), NoMemory>
     Ok(())
 }
 
-fn write_number(writer: &mut Writer, number: i128) -> Result<(), NoMemory>
+/// A whole number.
+pub fn write_number(writer: &mut Writer, number: i128) -> Result<(), NoMemory>
     ensures { OnOk result (Appends writer.old writer.new (number_token number ∷ [])) }
 {
     let mut buffer = Buffer::new();
@@ -111,7 +108,7 @@ fn write_number(writer: &mut Writer, number: i128) -> Result<(), NoMemory>
 }
 
 /// A text.
-pub(crate) fn write_text(writer: &mut Writer, text: &Bytes) -> Result<(), NoMemory>
+pub fn write_text(writer: &mut Writer, text: &Bytes) -> Result<(), NoMemory>
     requires { IsUtf8 text.now }
     ensures { OnOk result (Appends writer.old writer.new (string text.now ∷ [])) }
 {

@@ -23,10 +23,14 @@ pub struct Solo {
 }
 
 impl Model for Solo {
-    ghost use Rattle.std.specs.Arc.{arc_value};
+    ghost use Rattle.gr_db.specs.contracts.shared_expr.SharedExpr as shared;
     ghost use Rattle.gr_root.specs.Root.{Rooted};
+    ghost use Rattle.std.specs.Arc.{arc_value};
+    ghost use Rattle.std.specs.Coded.{codes};
 
     ghost Value = { Rooted };
+
+    ghost coded = { Prim.hlevel (codes, shared.the_row.coded) };
 
     ghost view = { λ solo. arc_value solo.root };
 }

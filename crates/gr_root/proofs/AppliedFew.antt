@@ -2,10 +2,10 @@
 use Rattle.std.proofs.Common.{ℕ, zero, suc, ◌≡◌, ◌+◌, ◌≤◌, Bool, true, false, cond, Option, Some, None, List, [], ◌∷◌, ◌++◌, filter, fold, length, slice_get, refl, sym, ap, subst, ◌∙◌, arith, length-append}
 use Rattle.std.specs.Option.{option_map_or}
 use Rattle.gr_base.specs.declared.numbers.TableNo.{TableNo}
-use Rattle.gr_db.specs.Apply.{apply, column_made, counted, counts, id_which, replay}
+use Rattle.gr_db.specs.Apply.{apply, column_made, counted, counts, id_if, id_which, replay}
 use Rattle.gr_db.specs.Db.{Db, changed_table, empty, without}
 use Rattle.gr_db.specs.declared.entry.Change.{Change}
-use Rattle.gr_db.specs.declared.entry.Change.TheVariants.{CreateTable, CreateColumn, Put, Delete, Merge}
+use Rattle.gr_db.specs.declared.entry.Change.TheVariants.{CreateTable, CreateColumn, Put, Delete, DeleteIf, Merge}
 use Rattle.gr_db.specs.declared.entry.Entry.{Entry}
 use Rattle.gr_schema.specs.Schema.{SchemaDef, changed_at, column_count, table_with, with_column, with_table}
 use Rattle.gr_schema.specs.Wishes.{column_of, table_of}
@@ -36,6 +36,7 @@ apply-tables db (CreateTable wish) = omega (arith, length-append db.schema.table
 apply-tables db (CreateColumn wish) = omega (arith, tables-column db (column_of db.schema wish))
 apply-tables db (Put table key settings) = omega (arith, ap (λ (schema : SchemaDef). length schema.tables) (put-schema db table key settings))
 apply-tables db (Delete table by) = omega (arith, ap (λ (schema : SchemaDef). length schema.tables) (delete-schema db table (id_which db table by)))
+apply-tables db (DeleteIf table id condition) = omega (arith, ap (λ (schema : SchemaDef). length schema.tables) (delete-schema db table (id_if db table id condition)))
 apply-tables db (Merge table column from to) = omega arith
 
 -- Columns
@@ -68,6 +69,7 @@ apply-columns db (CreateTable wish) table = omega (arith, width-pushed db.schema
 apply-columns db (CreateColumn wish) table = columns-column db (column_of db.schema wish) table
 apply-columns db (Put home key settings) table = omega (arith, ap (λ (schema : SchemaDef). column_count schema table) (put-schema db home key settings))
 apply-columns db (Delete home by) table = omega (arith, ap (λ (schema : SchemaDef). column_count schema table) (delete-schema db home (id_which db home by)))
+apply-columns db (DeleteIf home id condition) table = omega (arith, ap (λ (schema : SchemaDef). column_count schema table) (delete-schema db home (id_if db home id condition)))
 apply-columns db (Merge home column from to) table = omega arith
 
 -- Journals

@@ -23,7 +23,7 @@ use Rattle.gr_db.specs.Db.{Db, empty}
 use Rattle.gr_db.specs.Entry.{IsValid}
 use Rattle.gr_db.specs.Fitting.{IsFitting}
 use Rattle.gr_db.specs.declared.entry.Change.{Change}
-use Rattle.gr_db.specs.declared.entry.Change.TheVariants.{CreateTable, CreateColumn, Put, Delete, Merge}
+use Rattle.gr_db.specs.declared.entry.Change.TheVariants.{CreateTable, CreateColumn, Put, Delete, DeleteIf, Merge}
 use Rattle.gr_db.specs.declared.entry.Entry.{Entry}
 use Rattle.gr_expr.specs.Tables.{Records}
 use Rattle.gr_root.specs.Inside.Make.{IsMade, IsUnmade, Makes}
@@ -67,6 +67,7 @@ valid-counts schema (CreateTable wish) valid = refl
 valid-counts schema (CreateColumn wish) valid = refl
 valid-counts schema (Put table key settings) valid = refl
 valid-counts schema (Delete table by) valid = refl
+valid-counts schema (DeleteIf table id condition) valid = refl
 valid-counts schema (Merge table column from to) valid = absurd valid
 
 counted-pushed : (journal : List Entry) (entry : Entry) → counts entry.change ≡ true → counted (journal ++ entry ∷ []) ≡ counted journal + 1
@@ -91,6 +92,7 @@ accepted-after limits before (CreateTable wish) valid faultless = record { valid
 accepted-after limits before (CreateColumn wish) valid faultless = record { valid = valid; faultless = faultless }
 accepted-after limits before (Put table key settings) valid faultless = record { valid = valid; faultless = faultless }
 accepted-after limits before (Delete table by) valid faultless = record { valid = valid; faultless = faultless }
+accepted-after limits before (DeleteIf table id condition) valid faultless = record { valid = valid; faultless = faultless }
 accepted-after limits before (Merge table column from to) valid faultless = absurd valid
 
 accepted-at : (limits : Limits) (journal : List Entry) (last : Entry) (place : ℕ) (entry : Entry) → IsAccepted limits journal → IsAcceptedAfter limits journal last.change

@@ -1,5 +1,5 @@
 -- Tables of which the records of one are changed, as a database.
-use Rattle.std.proofs.Common.{◌≡◌, ℕ, ◌+◌, ◌≤◌, zero, suc, Bool, true, false, Option, Some, None, is_some, List, [], ◌∷◌, get_or, length, map, slice_get, slice_set, refl, ap, sym, ◌∙◌, arith, subst}
+use Rattle.std.proofs.Common.{◌≡◌, ℕ, ◌+◌, ◌≤◌, zero, suc, Bool, true, false, ◌&&◌, nat_lt, Option, Some, None, is_some, List, [], ◌∷◌, get_or, length, map, slice_get, slice_set, refl, ap, sym, ◌∙◌, arith, subst}
 use Rattle.std.proofs.lemmas.List.Quantifiers.{position-Some}
 use Rattle.std.proofs.lemmas.Option.{cond_some, slice_get-get_or}
 use Rattle.std.specs.List.{position}
@@ -7,15 +7,17 @@ use Rattle.std.specs.Option.{option_flatten, option_map, option_map_or, option_t
 use Rattle.gr_base.specs.declared.numbers.Limits.{Limits}
 use Rattle.gr_base.specs.declared.numbers.RecordId.{RecordId}
 use Rattle.gr_base.specs.declared.numbers.TableNo.{TableNo}
-use Rattle.gr_db.specs.Apply.{apply, change_fault, id_which, missing_fault}
+use Rattle.gr_db.specs.Apply.{apply, change_fault, id_if, id_which, missing_fault, removed}
 use Rattle.gr_db.specs.Changed.{Place, touched}
 use Rattle.gr_db.specs.Db.{Db, changed_table, without}
 use Rattle.gr_db.specs.declared.entry.Change.{Change}
-use Rattle.gr_db.specs.declared.entry.Change.TheVariants.{Delete}
+use Rattle.gr_db.specs.declared.entry.Change.TheVariants.{Delete, DeleteIf}
 use Rattle.gr_db.specs.declared.entry.Which.{Which}
 use Rattle.gr_db.specs.declared.entry.Which.TheVariants.{Id, Key as ByKey}
+use Rattle.gr_expr.specs.Score.{score_of}
 use Rattle.gr_expr.specs.Tables.{Record, Records, has_key, id_in, record_at, record_id, record_in, records_of}
-use Rattle.gr_root.specs.Inside.Change.{IsChangedAt}
+use Rattle.gr_expr.specs.declared.typed.Expr.{Expr}
+use Rattle.gr_root.specs.Inside.Change.{IsChangedAt, IsRemoved, IsUnchanged}
 use Rattle.gr_root.specs.Inside.Make.{IsMade}
 use Rattle.gr_root.specs.Inside.Sound.{AreFormed, AreWithin, records_in}
 use Rattle.gr_root.specs.Inside.Walk.{db_of}
@@ -82,15 +84,54 @@ which-alive schema tables table (Id one) id is =
     ap (λ (i : RecordId). is_some (record_at (records_in tables) table i)) (sym both.1) ∙ both.0
 which-alive schema tables table (ByKey key) id is = which-by schema tables table key id (position (has_key key) (records_of (records_in tables) table)) refl is
 
+and-first : (a b : Bool) → (a && b) ≡ true → a ≡ true
+and-first true b is = refl
+and-first false b is = is
+
+-- a record that a condition finds is there
+pub found-alive : (schema : SchemaDef) (tables : List TableOf) (table : TableNo) (one : RecordId) (condition : Expr) (id : RecordId) → id_if (db_of schema tables) table one condition ≡ Some id
+    → is_some (record_at (records_in tables) table id) ≡ true
+found-alive schema tables table one condition id is =
+    let there = is_some (record_at (records_in tables) table one) in
+    let scores = nat_lt 0 (score_of (records_in tables) one condition) in
+    let both = cond_some (there && scores) one id is in
+    ap (λ (i : RecordId). is_some (record_at (records_in tables) table i)) (sym both.1) ∙ and-first there scores both.0
+
+-- what stands without a record is what a change makes that removes it
+made-removed : (limits : Limits) (schema : SchemaDef) (old : List TableOf) (table : TableNo) (change : Change) (found : Option RecordId) (id : RecordId) (made : Made)
+    → found ≡ Some id → change_fault limits (db_of schema old) change ≡ None → apply (db_of schema old) change ≡ removed table found (db_of schema old)
+    → touched (db_of schema old) change ≡ option_to_list (option_map (λ i. let place : Place = (table, i) in place) found)
+    → IsRemoved schema old table id made → AreFormed schema old → AreWithin limits.records old → IsMade limits schema old change made
+made-removed limits schema old table change found id made is faultless applies touches gone formed within = record {
+  faultless = faultless;
+  is = ap (λ (s : SchemaDef). db_of s made.tables) gone.schema_same ∙ changed-db schema old made.tables table (without id.0) gone.tables
+      ∙ ap (λ (o : Option RecordId). removed table o (db_of schema old)) (sym is) ∙ sym applies;
+  touched = gone.touched ∙ ap (λ (o : Option RecordId). option_to_list (option_map (λ i. let place : Place = (table, i) in place) o)) (sym is) ∙ sym touches;
+  formed = subst (λ (s : SchemaDef). AreFormed s made.tables) (sym gone.schema_same) (changed-formed schema old made.tables table (without id.0) gone.tables formed);
+  within = changed-within limits.records old made.tables table (without id.0) (length-without id.0) gone.tables within;
+}
+
 -- the record that is named was removed
-pub made-deleted : (limits : Limits) (schema : SchemaDef) (old new : List TableOf) (table : TableNo) (by : Which) (id : RecordId) (made : Made)
-    → id_which (db_of schema old) table by ≡ Some id → IsChangedAt old new table (without id.0) → AreFormed schema old → AreWithin limits.records old
-    → made.schema ≡ schema → made.tables ≡ new → (let place : Place = (table, id) in made.touched ≡ place ∷ []) → IsMade limits schema old (Delete table by) made
-made-deleted limits schema old new table by id made which at formed within same_schema same_tables places = record {
-  faultless = ap missing_fault which;
-  is = ap (λ (s : SchemaDef). db_of s made.tables) same_schema ∙ ap (db_of schema) same_tables ∙ changed-db schema old new table (without id.0) at
-      ∙ ap (λ (o : Option RecordId). option_map_or (λ i. changed_table table (without i.0) (db_of schema old)) o (db_of schema old)) (sym which);
-  touched = places ∙ ap (λ (o : Option RecordId). option_to_list (option_map (λ i. let place : Place = (table, i) in place) o)) (sym which);
-  formed = subst (λ (s : SchemaDef). AreFormed s made.tables) (sym same_schema) (subst (AreFormed schema) (sym same_tables) (changed-formed schema old new table (without id.0) at formed));
-  within = subst (AreWithin limits.records) (sym same_tables) (changed-within limits.records old new table (without id.0) (length-without id.0) at within);
+pub made-deleted : (limits : Limits) (schema : SchemaDef) (old : List TableOf) (table : TableNo) (by : Which) (id : RecordId) (made : Made)
+    → id_which (db_of schema old) table by ≡ Some id → IsRemoved schema old table id made → AreFormed schema old → AreWithin limits.records old → IsMade limits schema old (Delete table by) made
+made-deleted limits schema old table by id made which =
+    made-removed limits schema old table (Delete table by) (id_which (db_of schema old) table by) id made which (ap missing_fault which) refl refl
+
+-- the record that a condition finds was removed
+pub made-deleted-if : (limits : Limits) (schema : SchemaDef) (old : List TableOf) (table : TableNo) (one : RecordId) (condition : Expr) (id : RecordId) (made : Made)
+    → id_if (db_of schema old) table one condition ≡ Some id → IsRemoved schema old table id made → AreFormed schema old → AreWithin limits.records old
+    → IsMade limits schema old (DeleteIf table one condition) made
+made-deleted-if limits schema old table one condition id made found =
+    made-removed limits schema old table (DeleteIf table one condition) (id_if (db_of schema old) table one condition) id made found refl refl refl
+
+-- where a condition finds none, nothing changes
+pub made-unchanged : (limits : Limits) (schema : SchemaDef) (old : List TableOf) (table : TableNo) (one : RecordId) (condition : Expr) (made : Made)
+    → id_if (db_of schema old) table one condition ≡ None → IsUnchanged schema old made → AreFormed schema old → AreWithin limits.records old
+    → IsMade limits schema old (DeleteIf table one condition) made
+made-unchanged limits schema old table one condition made none same formed within = record {
+  faultless = refl;
+  is = ap (λ (s : SchemaDef). db_of s made.tables) same.schema_same ∙ ap (db_of schema) same.tables_same ∙ ap (λ (o : Option RecordId). removed table o (db_of schema old)) (sym none);
+  touched = same.touched ∙ ap (λ (o : Option RecordId). option_to_list (option_map (λ i. let place : Place = (table, i) in place) o)) (sym none);
+  formed = subst (λ (s : SchemaDef). AreFormed s made.tables) (sym same.schema_same) (subst (AreFormed schema) (sym same.tables_same) formed);
+  within = subst (AreWithin limits.records) (sym same.tables_same) within;
 }

@@ -6,7 +6,8 @@ use Rattle.std.specs.Prelude.{IfSome, IsUtf8, MatchOption}
 use Rattle.gr_base.specs.declared.numbers.ColumnNo.{ColumnNo}
 use Rattle.gr_base.specs.declared.numbers.TableNo.{TableNo}
 use Rattle.gr_db.specs.Db.{Db, kind_shape, role_shape}
-use Rattle.gr_db.specs.Entry.{IsKeyFor, IsPut, IsReadable, IsReadableGiven, IsReadableNew, IsReadableSetting, IsReadableWant, IsSetting}
+use Rattle.gr_db.specs.Entry.{IsPut, IsReadable, IsReadableGiven, IsReadableNew, IsReadableSetting, IsReadableWant, IsSetting}
+use Rattle.gr_db.specs.Keys.{IsKeyFor}
 use Rattle.gr_db.specs.Wants.{Setting, added, all_added, by_column, column_target, given_in, is_there, keys_in, placed, record_wants, reference_wants, role_target, target_of}
 use Rattle.gr_db.specs.declared.want.Added.{Added}
 use Rattle.gr_db.specs.declared.want.Want.{Want}

@@ -10,13 +10,14 @@ use Rattle.gr_base.specs.declared.numbers.ColumnNo.{ColumnNo}
 use Rattle.gr_base.specs.declared.numbers.Limits.{Limits}
 use Rattle.gr_base.specs.declared.numbers.RecordId.{RecordId}
 use Rattle.gr_base.specs.declared.numbers.TableNo.{TableNo}
-use Rattle.gr_db.specs.Apply.{apply, change_fault, column_made, column_wants, id_which, index_fault, kept, own_id, put, with_blank_column, with_setting}
+use Rattle.gr_db.specs.Apply.{apply, change_fault, column_made, column_wants, id_if, id_which, index_fault, kept, own_id, put, with_blank_column, with_setting}
 use Rattle.gr_db.specs.Db.{Db, blank, changed_in, changed_table, new_record, role_shape, shapes_at, shapes_of, with_cell, with_column_of, with_one_more, with_record, without}
-use Rattle.gr_db.specs.Entry.{AreReadable, IsKeyFor, IsPut, IsReadableTarget, IsSetting, IsValid}
+use Rattle.gr_db.specs.Entry.{AreReadable, IsPut, IsReadableTarget, IsSetting, IsValid}
+use Rattle.gr_db.specs.Keys.{IsKeyFor}
 use Rattle.gr_db.specs.Fitting.{FitsTable, IsFitting}
 use Rattle.gr_db.specs.Wants.{Setting, added, all_added, all_wanted, column_target, is_there, record_wants, text_in, text_of_cell, text_of_key, token_wants, wanted}
 use Rattle.gr_db.specs.declared.entry.Change.{Change}
-use Rattle.gr_db.specs.declared.entry.Change.TheVariants.{CreateTable, CreateColumn, Put, Delete, Merge}
+use Rattle.gr_db.specs.declared.entry.Change.TheVariants.{CreateTable, CreateColumn, Put, Delete, DeleteIf, Merge}
 use Rattle.gr_db.specs.declared.want.Want.{Want}
 use Rattle.gr_db.proofs.Grows.{all-wanted-schema, extends-column, extends-table, made-schema, table-stays}
 use Rattle.gr_expr.specs.Tables.{Record, Records, record_at, record_in, records_of}
@@ -441,6 +442,7 @@ change-good limits db (CreateColumn wish) sound grown good valid none =
     made-good db wish (column_of db.schema wish) (or-none (column_fault db.schema wish) (option_and_then (λ made. index_fault limits db made.0 made.1) (column_of db.schema wish)) none) refl sound grown good
 change-good limits db (Put table key settings) sound grown good valid none = put-good db table key settings sound good valid
 change-good limits db (Delete table by) sound grown good valid none = delete-good db table (id_which db table by) good
+change-good limits db (DeleteIf table id condition) sound grown good valid none = delete-good db table (id_if db table id condition) good
 change-good limits db (Merge table column from to) sound grown good valid none = good
 
 -- What fits

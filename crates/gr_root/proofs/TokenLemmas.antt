@@ -15,7 +15,8 @@ use Rattle.std.proofs.Math.Utf8.{scalar, scalars}
 use Rattle.gr_base.specs.declared.numbers.ColumnNo.{ColumnNo}
 use Rattle.gr_base.specs.declared.numbers.TableNo.{TableNo}
 use Rattle.gr_db.specs.Db.{Db}
-use Rattle.gr_db.specs.Entry.{AreReadable, IsKeyFor, IsReadable, IsReadableGiven, IsReadableNew, IsReadableSetting, IsReadableTarget}
+use Rattle.gr_db.specs.Entry.{AreReadable, IsReadable, IsReadableGiven, IsReadableNew, IsReadableSetting, IsReadableTarget}
+use Rattle.gr_db.specs.Keys.{IsKeyFor}
 use Rattle.gr_db.specs.Wants.{Setting, by_column, index_wants, indexes_on, key_wants, new_index_wants, setting_wants, source_wants, text_in, text_of_key, text_wants, token_wants}
 use Rattle.gr_db.specs.declared.want.Added.{Added}
 use Rattle.gr_db.specs.declared.want.Want.{Want}

@@ -13,7 +13,7 @@ use Rattle.gr_base.specs.declared.fault.FaultKind.TheVariants.{TableFull}
 use Rattle.gr_base.specs.declared.numbers.RecordId.{RecordId}
 use Rattle.gr_base.specs.declared.numbers.TableNo.{TableNo}
 use Rattle.gr_db.specs.Db.{Db, shapes_at, with_record}
-use Rattle.gr_db.specs.Entry.{IsKeyFor}
+use Rattle.gr_db.specs.Keys.{IsKeyFor}
 use Rattle.gr_db.specs.Wants.{added, all_added, all_wanted, first_full, given_in, is_there, wanted}
 use Rattle.gr_db.specs.declared.want.Added.{Added}
 use Rattle.gr_db.specs.declared.want.Want.{Want}

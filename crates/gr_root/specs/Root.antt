@@ -6,7 +6,7 @@ use Rattle.gr_base.specs.declared.fault.Fault.{Fault}
 use Rattle.gr_base.specs.declared.numbers.Limits.{Limits}
 use Rattle.gr_db.specs.Apply.{counts, fault_of}
 use Rattle.gr_db.specs.declared.entry.Change.{Change}
-use Rattle.gr_db.specs.declared.entry.Change.TheVariants.{CreateTable, CreateColumn, Put, Delete, Merge}
+use Rattle.gr_db.specs.declared.entry.Change.TheVariants.{CreateTable, CreateColumn, Put, Delete, DeleteIf, Merge}
 use Rattle.gr_db.specs.declared.entry.Entry.{Entry}
 use Rattle.gr_schema.specs.Wishes.{IsTextColumn, IsTextTable}
 
@@ -41,6 +41,7 @@ HoldsText (CreateTable wish) = IsTextTable wish
 HoldsText (CreateColumn wish) = IsTextColumn wish
 HoldsText (Put table key settings) = Unit {0}
 HoldsText (Delete table by) = Unit {0}
+HoldsText (DeleteIf table id condition) = Unit {0}
 HoldsText (Merge table column from to) = Unit {0}
 
 -- how many entries of a journal are merges

@@ -4,13 +4,15 @@ ghost use Rattle.gr_base.specs.Fault.{fault_named};
 ghost use Rattle.gr_base.specs.declared.fault.FaultKind.TheVariants.{JournalFull};
 ghost use Rattle.gr_base.specs.declared.numbers.TableNo.{TableNo};
 ghost use Rattle.gr_db.specs.Entry.{IsValid};
+ghost use Rattle.gr_db.specs.Fitting.{IsFitting};
 ghost use Rattle.gr_root.specs.Inside.Make.{IsBase, Makes};
+ghost use Rattle.gr_root.specs.Inside.Walk.{db_of};
 ghost use Rattle.gr_root.specs.Root.{HoldsText};
 ghost use Rattle.gr_schema.specs.Schema.{column_count};
 ghost use Rattle.gr_schema.specs.Sound.{IsSound};
 
 use crate::create::{create_column, create_table};
-use crate::delete::delete;
+use crate::delete::{delete, delete_if};
 use crate::make::Made;
 use crate::put::put;
 use crate::shared_schema::SharedSchema;
@@ -30,6 +32,7 @@ pub(crate) fn made(
     change: &Change,
 ) -> Result<Made, Failure<Fault>>
     requires base { IsBase limits.records schema.now tables.now }
+    requires fitting { IsFitting (db_of schema.now tables.now) }
     requires few_tables { length schema.now.tables < 2 ^ 31 }
     requires few_columns { (table : TableNo) → column_count schema.now table < 2 ^ 31 }
     requires valid { IsValid schema.now change.now }
@@ -53,6 +56,11 @@ pub(crate) fn made(
             settings.as_slice(),
         ),
         Change::Delete { table, by } => delete(alloc, limits, schema, tables, *table, by),
+        Change::DeleteIf {
+            table,
+            id,
+            condition,
+        } => delete_if(alloc, limits, schema, tables, *table, *id, condition),
         Change::Merge { .. } => unreachable!(),
     }
 }

@@ -1,20 +1,22 @@
 // Deletions.
 ghost use Rattle.std.specs.Prelude.{◌≡◌, ◌∷◌, [], true, is_some, IfOk, IsUtf8, OnOk};
 ghost use Rattle.gr_db.specs.Db.{without};
-ghost use Rattle.gr_db.specs.Entry.{IsDelete};
-ghost use Rattle.gr_db.specs.declared.entry.Change.TheVariants.{Delete};
+ghost use Rattle.gr_db.specs.Entry.{IsDelete, IsDeleteIf};
+ghost use Rattle.gr_db.specs.Fitting.{IsFitting};
+ghost use Rattle.gr_db.specs.declared.entry.Change.TheVariants.{Delete, DeleteIf};
 ghost use Rattle.gr_base.specs.Fault.{fault_named};
 ghost use Rattle.gr_base.specs.declared.fault.FaultKind.TheVariants.{NoSuchRecord};
 ghost use Rattle.gr_expr.specs.Tables.{record_at};
-ghost use Rattle.gr_root.specs.Inside.Change.{IsChangedAt};
+ghost use Rattle.gr_root.specs.Inside.Change.{IsChangedAt, IsRemoved, IsUnchanged};
 ghost use Rattle.gr_root.specs.Inside.Sound.{records_in};
 ghost use Rattle.gr_root.specs.Inside.Make.{IsBase, Makes};
+ghost use Rattle.gr_root.specs.Inside.Walk.{db_of};
 
 use crate::make::{Made, Places};
 use crate::shared_schema::SharedSchema;
 use crate::working::WorkingTables;
 use gr_base::{Bytes, Failure, Fault, FaultKind, Limits, ListOf, NoMemory, RecordId, TableNo};
-use gr_db::{Which, id_which};
+use gr_db::{SharedExpr, Which, id_if, id_which};
 use gr_pvec::PVec;
 use gr_table::TableRecords;
 use std::alloc::Global;
@@ -32,18 +34,67 @@ pub(crate) fn delete(
     requires valid { IsDelete schema.now table by.now }
     ensures { Makes limits schema.now tables.now (Delete table by.now) result }
 {
-    let mut working = WorkingTables::new(tables.try_clone()?);
+    let working = WorkingTables::new(tables.try_clone()?);
     match id_which(&working, table, by) {
-        Some(id) => {
-            remove(alloc, &mut working, table, id)?;
-            Ok(Made {
-                schema: schema.try_clone()?,
-                tables: working.into_kept(alloc)?,
-                touched: one_place(alloc, table, id)?,
-            })
-        }
+        Some(id) => Ok(removed(alloc, schema, working, table, id)?),
         None => Err(Failure::Refused(no_such_record(alloc)?)),
     }
+}
+
+/// Removes a record where it is there and a condition finds it, and else does nothing.
+pub(crate) fn delete_if(
+    alloc: Global,
+    limits: Limits,
+    schema: &SharedSchema,
+    tables: &PVec<TableRecords>,
+    table: TableNo,
+    id: RecordId,
+    condition: &SharedExpr,
+) -> Result<Made, Failure<Fault>>
+    requires base { IsBase limits.records schema.now tables.now }
+    requires fitting { IsFitting (db_of schema.now tables.now) }
+    requires valid { IsDeleteIf schema.now table condition.now }
+    ensures { Makes limits schema.now tables.now (DeleteIf table id condition.now) result }
+{
+    let working = WorkingTables::new(tables.try_clone()?);
+    match id_if(&working, table, id, condition.get()) {
+        Some(id) => Ok(removed(alloc, schema, working, table, id)?),
+        None => Ok(unchanged(alloc, schema, tables)?),
+    }
+}
+
+// What stands without a record that is there.
+fn removed(
+    alloc: Global,
+    schema: &SharedSchema,
+    mut working: WorkingTables,
+    table: TableNo,
+    id: RecordId,
+) -> Result<Made, NoMemory>
+    requires { is_some (record_at (records_in working) table id) ≡ true }
+    ensures { IfOk result (IsRemoved schema.now working table id) }
+{
+    remove(alloc, &mut working, table, id)?;
+    Ok(Made {
+        schema: schema.try_clone()?,
+        tables: working.into_kept(alloc)?,
+        touched: one_place(alloc, table, id)?,
+    })
+}
+
+// What stands where nothing changes.
+fn unchanged(
+    alloc: Global,
+    schema: &SharedSchema,
+    tables: &PVec<TableRecords>,
+) -> Result<Made, NoMemory>
+    ensures { IfOk result (IsUnchanged schema.now tables.now) }
+{
+    Ok(Made {
+        schema: schema.try_clone()?,
+        tables: tables.try_clone()?,
+        touched: ListOf::from_vec(Vec::new(alloc)),
+    })
 }
 
 // Removes a record that is there.

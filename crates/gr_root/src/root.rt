@@ -41,9 +41,13 @@ pub struct Root {
 }
 
 impl Model for Root {
+    ghost use Rattle.gr_db.specs.contracts.shared_expr.SharedExpr as shared;
     ghost use Rattle.gr_root.specs.Root.{Rooted};
+    ghost use Rattle.std.specs.Coded.{codes};
 
     ghost Value = { Rooted };
+
+    ghost coded = { Prim.hlevel (codes, shared.the_row.coded) };
 
     ghost use Rattle.gr_root.specs.Inside.Sound.{IsSound};
 

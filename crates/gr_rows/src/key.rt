@@ -3,7 +3,7 @@ ghost use Rattle.std.specs.Prelude.{◌≡◌, IfOk, option_map, true};
 ghost use Rattle.std.specs.Option.{option_and_then};
 ghost use Rattle.serde_json.specs.View.{view};
 ghost use Rattle.gr_base.specs.Failure.{result_then};
-ghost use Rattle.gr_db.specs.Entry.{IsKeyFor};
+ghost use Rattle.gr_db.specs.Keys.{IsKeyFor};
 ghost use Rattle.gr_rows.specs.Inside.Keys.{key_fault_name};
 ghost use Rattle.gr_rows.specs.Inside.Targets.{IsTarget};
 ghost use Rattle.gr_rows.specs.Inside.Told.{Tells};

@@ -37,7 +37,7 @@ pub(crate) fn run_session<S: Source + Drop>(
     let opened = solo.pin().journal().len();
     let mut done = Vec::new(alloc);
     let end = match Session::open(alloc, number, limits, opened) {
-        Ok(session) => run_source(alloc, limits, session, solo, source, &mut done),
+        Ok(mut session) => run_source(alloc, limits, &mut session, solo, source, &mut done),
         Err(NoMemory) => End::NoMemory,
     };
     SessionLog {
@@ -53,7 +53,7 @@ pub(crate) fn run_session<S: Source + Drop>(
 fn run_source<S: Source + Drop>(
     alloc: Global,
     limits: Limits,
-    mut session: Session,
+    session: &mut Session,
     solo: &mut Solo,
     mut source: S,
     done: &mut Vec<Done>,
@@ -61,11 +61,11 @@ fn run_source<S: Source + Drop>(
     requires limits { limits ≡ solo.old.limits }
     requires range { IsInRange limits }
     requires countable { (S.told source).faults < 2 ^ 64 - 1 }
-    requires opened { session ≡ opened_at limits session.session (length solo.old.journal) }
-    requires first { AllByRecursion (λ entry. entry.session.0 < session.session) solo.old.journal }
+    requires opened { session.old ≡ opened_at limits session.old.session (length solo.old.journal) }
+    requires first { AllByRecursion (λ entry. entry.session.0 < session.old.session) solo.old.journal }
     requires none { done.old.items ≡ [] }
     ensures limits { solo.new.limits ≡ solo.old.limits }
-    ensures runs { RunsSource limits (S.told source) session.session solo.old.journal solo.new.journal done.new.items result }
+    ensures runs { RunsSource limits (S.told source) session.old.session solo.old.journal solo.new.journal done.new.items result }
 {
     let Ok(mut room) = piece(alloc) else {
         return End::NoMemory;
@@ -76,7 +76,7 @@ fn run_source<S: Source + Drop>(
         match source.read(&mut room) {
             Ok(0) => {
                 reader.end();
-                return match run_commands(alloc, &mut session, solo, &mut reader, done) {
+                return match run_commands(alloc, session, solo, &mut reader, done) {
                     Ok(()) => End::Finished,
                     Err(NoMemory) => End::NoMemory,
                 };
@@ -85,7 +85,7 @@ fn run_source<S: Source + Drop>(
                 let kept = within(limits.source, total, given);
                 total += given as u64;
                 let piece = &room[..kept];
-                if run_piece(alloc, &mut session, solo, &mut reader, piece, done).is_err() {
+                if run_piece(alloc, session, solo, &mut reader, piece, done).is_err() {
                     return End::NoMemory;
                 }
                 if total > limits.source {

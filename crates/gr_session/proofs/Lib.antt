@@ -8,6 +8,5 @@ mod MeaningLemmas
 pub mod OwnLemmas
 pub mod ReplyLemmas
 mod ReplyTextLemmas
-mod SelectLemmas
 mod StepsLemmas
 mod ToldLemmas

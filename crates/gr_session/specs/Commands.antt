@@ -12,9 +12,11 @@ use Rattle.gr_session.specs.Delete.{delete, name_given}
 use Rattle.gr_session.specs.Dump.{dump}
 use Rattle.gr_session.specs.Fixed.{fixed_fault}
 use Rattle.gr_session.specs.Load.{load}
+use Rattle.gr_select.specs.declared.texts.Texts.{Texts}
 use Rattle.gr_session.specs.Meaning.{Meaning, refused_in}
 use Rattle.gr_session.specs.Select.{select}
 use Rattle.gr_session.specs.TableCreate.{table_create}
+use Rattle.gr_session.specs.declared.parsed.Parsed.{Parsed}
 use Rattle.gr_session.specs.declared.form.Form.{Form}
 use Rattle.gr_session.specs.declared.form.Form.TheVariants.{Plain, Counting, Naming}
 
@@ -32,20 +34,24 @@ abbrev pub form_of_command : Command → Form
 form_of_command command = form_by_verb command.verb command
 
 -- what a command means whose fixed parameters are right
-abbrev pub meaning_by_verb : Verb → Db → Command → Meaning
-meaning_by_verb TableCreate db command = table_create command
-meaning_by_verb ColumnCreate db command = column_create command
-meaning_by_verb Load db command = load db command
-meaning_by_verb Delete db command = delete db command
-meaning_by_verb Select db command = select db command
-meaning_by_verb Dump db command = dump db
+abbrev pub meaning_by_verb : Verb → Db → Command → Texts → Meaning
+meaning_by_verb TableCreate db command texts = table_create command
+meaning_by_verb ColumnCreate db command texts = column_create command
+meaning_by_verb Load db command texts = load db command
+meaning_by_verb Delete db command texts = delete db command texts
+meaning_by_verb Select db command texts = select db command texts
+meaning_by_verb Dump db command texts = dump db
 
 -- what a command means, unless a fixed parameter is wrong
-abbrev pub meaning_unless : Option Fault → Db → Command → Meaning
-meaning_unless (Some fault) db command = refused_in (form_of_command command) fault
-meaning_unless None db command = meaning_by_verb command.verb db command
+abbrev pub meaning_unless : Option Fault → Db → Command → Texts → Meaning
+meaning_unless (Some fault) db command texts = refused_in (form_of_command command) fault
+meaning_unless None db command texts = meaning_by_verb command.verb db command texts
+
+-- what an item with these texts means, read at a database
+abbrev pub meaning_with : Db → Texts → Item → Meaning
+meaning_with db texts (Bad fault) = refused_in Plain fault
+meaning_with db texts (Asked command) = meaning_unless (fixed_fault command) db command texts
 
 -- what an item means, read at a database
-abbrev pub meaning_of : Db → Item → Meaning
-meaning_of db (Bad fault) = refused_in Plain fault
-meaning_of db (Asked command) = meaning_unless (fixed_fault command) db command
+abbrev pub meaning_of : Db → Parsed → Meaning
+meaning_of db parsed = meaning_with db parsed.texts parsed.item

@@ -1,5 +1,5 @@
 -- What `delete` asks for and answers.
-use Rattle.std.specs.Prelude.{ℕ, ◌==◌, ℤ, pos, negsuc, Bool, false, if◌then◌else◌, Option, Some, None, unwrap_or, Result, Ok, Err, List, [], ◌∷◌, codes}
+use Rattle.std.specs.Prelude.{ℕ, ◌==◌, ℤ, pos, negsuc, Bool, false, if◌then◌else◌, Option, Some, None, unwrap_or, Result, Ok, Err, List, [], ◌∷◌, map, codes}
 use Rattle.std.specs.Option.{ok_or, option_map}
 use Rattle.std.specs.Str.{byte}
 use Rattle.gr_base.specs.Failure.{result_map}
@@ -11,18 +11,23 @@ use Rattle.gr_base.specs.declared.numbers.RecordId.{RecordId}
 use Rattle.gr_base.specs.declared.numbers.TableNo.{TableNo}
 use Rattle.gr_cmdline.specs.Arguments.{value_of}
 use Rattle.gr_cmdline.specs.declared.command.Command.{Command}
-use Rattle.gr_cmdline.specs.declared.param.Param.TheVariants.{Id as OfId, Key as OfKey, Table}
+use Rattle.gr_cmdline.specs.declared.param.Param.TheVariants.{Filter, Id as OfId, Key as OfKey, Table}
 use Rattle.gr_db.specs.Db.{Db}
-use Rattle.gr_db.specs.declared.entry.Change.TheVariants.{Delete as DeleteChange}
+use Rattle.gr_db.specs.declared.entry.Change.{Change}
+use Rattle.gr_db.specs.declared.entry.Change.TheVariants.{Delete as DeleteChange, DeleteIf}
 use Rattle.gr_db.specs.declared.entry.Which.{Which}
 use Rattle.gr_db.specs.declared.entry.Which.TheVariants.{Id, Key as ByKey}
 use Rattle.gr_expr.specs.Tables.{record_id}
-use Rattle.gr_schema.specs.Schema.{is_lexicon}
+use Rattle.gr_expr.specs.declared.typed.Expr.{Expr}
+use Rattle.gr_plan.specs.Scan.{scan}
+use Rattle.gr_schema.specs.Schema.{SchemaDef, is_lexicon}
 use Rattle.gr_schema.specs.Wishes.{Home, home_named}
 use Rattle.gr_schema.specs.declared.definition.TableDef.{TableDef}
+use Rattle.gr_select.specs.Condition.{condition}
+use Rattle.gr_select.specs.Numbers.{number_of}
+use Rattle.gr_select.specs.declared.texts.Texts.{Texts}
 use Rattle.gr_session.specs.Checks.{text_of}
 use Rattle.gr_session.specs.Meaning.{Meaning, meaning_in, refused_in}
-use Rattle.gr_session.specs.Numbers.{number_of}
 use Rattle.gr_session.specs.ReplyText.{success_line}
 use Rattle.gr_session.specs.declared.form.Form.{Form}
 use Rattle.gr_session.specs.declared.form.Form.TheVariants.{Naming}
@@ -67,22 +72,47 @@ which_of home None id = which_of_id id
 abbrev pub name_given : Command → List ℕ
 name_given command = unwrap_or (value_of command.args.given OfKey) (text_of command OfId)
 
--- the record of a table that a command names; those of a lexicon stay
+-- the fault of a lexicon, whose records stay
+abbrev pub lexicon_fault : TableDef → Option Fault
+lexicon_fault home = if is_lexicon home then Some (fault_named LexiconReadOnly home.name) else None
+
+-- what was found, unless there is a fault
+abbrev pub found_unless : {T : Type 0} → Option Fault → Result T Fault → Result T Fault
+found_unless (Some fault) found = Err fault
+found_unless None found = found
+
+-- the record of a table that a command names
 abbrev pub which_in : TableDef → Command → Result Which Fault
-which_in home command =
-    if is_lexicon home then Err (fault_named LexiconReadOnly home.name)
-    else which_of home (value_of command.args.given OfKey) (text_of command OfId)
+which_in home command = found_unless (lexicon_fault home) (which_of home (value_of command.args.given OfKey) (text_of command OfId))
 
 -- one record is to be removed, unless none is named rightly
 abbrev pub delete_which : Form → TableNo → Result Which Fault → Meaning
 delete_which form table (Err fault) = refused_in form fault
 delete_which form table (Ok which) = meaning_in form (DeleteChange table which ∷ []) (success_line (codes "true"))
 
--- a record of a table, which must be there
-abbrev pub delete_of : Form → Option Home → Command → Meaning
-delete_of form None command = refused_in form (fault_named NoSuchTable (text_of command Table))
-delete_of form (Some home) command = delete_which form home.number (which_in home.def command)
+-- the condition by which records of a table are found
+abbrev pub condition_in : SchemaDef → Home → Texts → Result Expr Fault
+condition_in schema home texts = found_unless (lexicon_fault home.def) (condition schema home.number texts)
+
+-- each record that a condition finds, by ascending id, is to be removed where the condition still finds it
+abbrev pub deletions : Db → TableNo → Expr → List Change
+deletions db table condition = map (λ hit. DeleteIf table hit.0 condition) (scan db.tables table condition)
+
+-- the records that a condition finds are to be removed, unless it has a fault
+abbrev pub delete_found : Form → Db → TableNo → Result Expr Fault → Meaning
+delete_found form db table (Err fault) = refused_in form fault
+delete_found form db table (Ok condition) = meaning_in form (deletions db table condition) (success_line (codes "true"))
+
+-- records of a table: those that its filter finds, or where none is given the one that is named
+abbrev pub delete_in : Form → Db → Home → Command → Texts → Option (List ℕ) → Meaning
+delete_in form db home command texts None = delete_which form home.number (which_in home.def command)
+delete_in form db home command texts (Some filter) = delete_found form db home.number (condition_in db.schema home texts)
+
+-- records of a table, which must be there
+abbrev pub delete_of : Form → Db → Option Home → Command → Texts → Meaning
+delete_of form db None command texts = refused_in form (fault_named NoSuchTable (text_of command Table))
+delete_of form db (Some home) command texts = delete_in form db home command texts (value_of command.args.given Filter)
 
 -- what `delete` means; a record that is not there is told by the text that names it
-abbrev pub delete : Db → Command → Meaning
-delete db command = delete_of (Naming (name_given command)) (home_named db.schema (text_of command Table)) command
+abbrev pub delete : Db → Command → Texts → Meaning
+delete db command texts = delete_of (Naming (name_given command)) db (home_named db.schema (text_of command Table)) command texts

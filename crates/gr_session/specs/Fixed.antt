@@ -1,5 +1,5 @@
 -- The parameters that take one value or none, whatever the command.
-use Rattle.std.specs.Prelude.{Bool, true, false, ◌&&◌, Option, List, [], ◌∷◌, codes}
+use Rattle.std.specs.Prelude.{Bool, true, false, ◌&&◌, ◌||◌, Option, List, [], ◌∷◌, codes}
 use Rattle.gr_base.specs.declared.fault.Fault.{Fault}
 use Rattle.gr_cmdline.specs.Arguments.{is_given}
 use Rattle.gr_cmdline.specs.declared.command.Command.{Command}
@@ -22,13 +22,16 @@ is_delete Dump = false
 abbrev pub suffix_check : Command → Check
 suffix_check command = record { param = OutputType; fails = is_other (codes "json") command.args.suffix }
 
--- no delete takes a filter
-abbrev pub filter_check : Command → Check
-filter_check command = record { param = Filter; fails = is_delete command.verb && is_given command.args.given Filter }
-
 -- no delete takes both a key and an id
 abbrev pub id_check : Command → Check
 id_check command = record { param = Id; fails = is_delete command.verb && (is_given command.args.given Key && is_given command.args.given Id) }
+
+-- no delete takes a filter beside a key or an id
+abbrev pub filter_check : Command → Check
+filter_check command = record {
+  param = Filter;
+  fails = is_delete command.verb && (is_given command.args.given Filter && (is_given command.args.given Key || is_given command.args.given Id));
+}
 
 -- the checks in their order: replies and load data are JSON alone, there is one version of the commands, and the others are not taken
 abbrev pub fixed_checks : Command → List Check
@@ -41,8 +44,8 @@ fixed_checks command =
     ∷ never command TokenFilters
     ∷ never command Ifexists
     ∷ only command InputType (codes "json")
-    ∷ filter_check command
     ∷ id_check command
+    ∷ filter_check command
     ∷ []
 
 -- the fault of the first fixed parameter that is wrong

@@ -6,9 +6,9 @@ pub mod TableCreate
 pub mod ColumnCreate
 pub mod Delete
 pub mod Load
-pub mod Numbers
 pub mod Select
 pub mod Dump
+pub mod Parsed
 pub mod Commands
 pub mod Entries
 pub mod Own

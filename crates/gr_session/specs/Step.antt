@@ -13,15 +13,18 @@ use Rattle.gr_publish.specs.declared.published.Published.TheVariants.{Published,
 use Rattle.gr_session.specs.Commands.{meaning_of}
 use Rattle.gr_session.specs.Entries.{entry_of}
 use Rattle.gr_session.specs.Own.{own}
+use Rattle.gr_session.specs.Parsed.{IsRead, parsed_as}
 use Rattle.gr_session.specs.Reply.{IsStarved, OwnsFirst, Reply, after_last}
+use Rattle.gr_select.specs.declared.texts.Texts.{Texts}
+use Rattle.gr_session.specs.declared.parsed.Parsed.{Parsed}
 use Rattle.gr_session.specs.declared.session.Done.{Done}
 use Rattle.gr_session.specs.declared.session.Step.{Step}
 use Rattle.gr_session.specs.declared.session.Step.TheVariants.{Publish, Done as Finished}
 
--- a command under way: the state that it was read at, what it is, how many of its changes stand, and the length of the journal just after the last of them
+-- a command under way: the state that it was read at, what it is with its texts, how many of its changes stand, and the length of the journal just after the last of them
 pub record Going : Type 0 where
   pub base : Rooted
-  pub item : Item
+  pub parsed : Parsed
   pub made : ℕ
   pub reached : ℕ
 
@@ -55,7 +58,8 @@ pub record Begins (base journal : List Entry) : Type 0 where
 
 -- the next entry of a command: the change that it asks for next, which is valid where it was read
 pub record AsksNext (standing : Standing) (going : Going) (entry : Entry) : Type 0 where
-  pub change : slice_get (meaning_of (replay going.base.journal) going.item).changes going.made ≡ Some entry.change
+  pub read : IsRead going.parsed.item going.parsed.texts
+  pub change : slice_get (meaning_of (replay going.base.journal) going.parsed).changes going.made ≡ Some entry.change
   pub entry_is : entry ≡ entry_of standing.session standing.command going.made entry.change
   pub valid : IsValid (replay going.base.journal).schema entry.change
   pub text : HoldsText entry.change
@@ -66,31 +70,35 @@ pub record Ends (old new : Standing) (going : Going) (mark : ℕ) (done : Done) 
   pub mark_is : done.mark ≡ mark
   pub new_is : new ≡ gone_on old mark new.ended
   pub reply : (journal : List Entry) → Begins going.base.journal journal → mark ≤ length journal
-      → OwnsFirst journal old.session old.command going.item done going.made
-      → MatchBool new.ended (IsStarved journal old.session old.command going.item done) (claim journal)
+      → OwnsFirst journal old.session old.command going.parsed done going.made
+      → MatchBool new.ended (IsStarved journal old.session old.command going.parsed.item done) (claim journal)
 
 -- the reply holds where the mark is just after the last of the command's entries
 abbrev pub HoldsAfterLast : Standing → Going → Done → List Entry → Type 0
 HoldsAfterLast old going done journal =
-    after_last done.from (own old.session old.command journal) ≡ done.mark → Reply old.limits journal old.session old.command going.item done
+    after_last done.from (own old.session old.command journal) ≡ done.mark → Reply old.limits journal old.session old.command going.parsed.item done
 
 -- the reply holds where the change asked for next has this first fault at the mark
 abbrev pub HoldsWhereRefused : Standing → Going → Fault → Done → List Entry → Type 0
 HoldsWhereRefused old going fault done journal = (entry : Entry) → AsksNext old going entry
-    → fault_of old.limits (take done.mark journal) entry.change ≡ Some fault → Reply old.limits journal old.session old.command going.item done
+    → fault_of old.limits (take done.mark journal) entry.change ≡ Some fault → Reply old.limits journal old.session old.command going.parsed.item done
 
 -- a command that was read at a state, of which nothing stands yet
-abbrev pub begun : Rooted → Item → Going
-begun root item = record { base = root; item = item; made = 0; reached = length root.journal }
+abbrev pub begun : Rooted → Parsed → Going
+begun root parsed = record { base = root; parsed = parsed; made = 0; reached = length root.journal }
 
 -- a command of which one change more stands, at this place
 abbrev pub made_at : Going → ℕ → Going
-made_at going place = record { base = going.base; item = going.item; made = going.made + 1; reached = place + 1 }
+made_at going place = record { base = going.base; parsed = going.parsed; made = going.made + 1; reached = place + 1 }
 
--- how a command begins: it asks for its first entry, or is done at once
+-- how a command with these texts begins: it asks for its first entry, or is done at once
+abbrev pub BeginsAs : Standing → Standing → Rooted → Parsed → Step → Type 0
+BeginsAs old new root parsed (Publish entry) = (new ≡ going_on old (begun root parsed)) × AsksNext old (begun root parsed) entry
+BeginsAs old new root parsed (Finished done) = Ends old new (begun root parsed) (length root.journal) done (HoldsAfterLast old (begun root parsed) done)
+
+-- how a command begins, by what its texts are read as
 abbrev pub BeginsWith : Standing → Standing → Rooted → Item → Step → Type 0
-BeginsWith old new root item (Publish entry) = (new ≡ going_on old (begun root item)) × AsksNext old (begun root item) entry
-BeginsWith old new root item (Finished done) = Ends old new (begun root item) (length root.journal) done (HoldsAfterLast old (begun root item) done)
+BeginsWith old new root item step = (texts : Texts) × BeginsAs old new root (parsed_as item texts) step
 
 -- how a command goes on: it asks for its next entry, or is done
 abbrev pub GoesOn : Standing → Standing → Going → Answer → Step → Type 0

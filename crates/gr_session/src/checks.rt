@@ -3,9 +3,9 @@ ghost use Rattle.std.specs.Prelude.{◌≡◌, IfOk, IfSome, IsUtf8, find, optio
 ghost use Rattle.gr_cmdline.specs.Arguments.{AreTexts};
 ghost use Rattle.gr_session.specs.Checks.{first_failed, is_other, never, only, text_of};
 
-use crate::faults::fault_named;
 use gr_base::{Bytes, Fault, FaultKind, NoMemory};
 use gr_cmdline::{Command, Param};
+use gr_select::fault_named;
 use std::alloc::Global;
 
 // Whether a value is given that is not taken.

@@ -1,7 +1,7 @@
 // The parameters that take one value or none, whatever the command.
-ghost use Rattle.std.specs.Prelude.{◌≡◌, ◌&&◌, IfOk, IfSome, IsUtf8};
+ghost use Rattle.std.specs.Prelude.{◌≡◌, ◌&&◌, ◌||◌, IfOk, IfSome, IsUtf8};
 ghost use Rattle.gr_cmdline.specs.Arguments.{is_given};
-ghost use Rattle.gr_cmdline.specs.declared.param.Param.TheVariants.{Id, Key};
+ghost use Rattle.gr_cmdline.specs.declared.param.Param.TheVariants.{Filter, Id, Key};
 ghost use Rattle.gr_session.specs.Fixed.{filter_check, fixed_checks, fixed_fault, id_check, is_delete, suffix_check};
 
 use crate::checks::{Check, first_failed, is_other, never, only};
@@ -29,8 +29,8 @@ fn fixed_checks(command: &Command) -> [Check; 10]
         never(command, Param::TokenFilters),
         never(command, Param::Ifexists),
         only(command, Param::InputType, "json"),
-        filter_check(command),
         id_check(command),
+        filter_check(command),
     ]
 }
 
@@ -44,23 +44,23 @@ fn suffix_check(command: &Command) -> Check
     }
 }
 
-// No delete takes a filter.
-fn filter_check(command: &Command) -> Check
-    ensures { result ≡ filter_check command.now }
-{
-    Check {
-        param: Param::Filter,
-        fails: is_delete(command.verb) && is_given(command, Param::Filter),
-    }
-}
-
-// A delete takes a key or an id.
+// No delete takes both a key and an id.
 fn id_check(command: &Command) -> Check
     ensures { result ≡ id_check command.now }
 {
     Check {
         param: Param::Id,
         fails: is_delete(command.verb) && has_key_and_id(command),
+    }
+}
+
+// No delete takes a filter beside a key or an id.
+fn filter_check(command: &Command) -> Check
+    ensures { result ≡ filter_check command.now }
+{
+    Check {
+        param: Param::Filter,
+        fails: is_delete(command.verb) && has_filter_and_name(command),
     }
 }
 
@@ -74,6 +74,13 @@ fn has_key_and_id(command: &Command) -> bool
     ensures { result ≡ (is_given command.now.args.given Key && is_given command.now.args.given Id) }
 {
     is_given(command, Param::Key) && is_given(command, Param::Id)
+}
+
+fn has_filter_and_name(command: &Command) -> bool
+    ensures { result ≡ (is_given command.now.args.given Filter && (is_given command.now.args.given Key || is_given command.now.args.given Id)) }
+{
+    is_given(command, Param::Filter)
+        && (is_given(command, Param::Key) || is_given(command, Param::Id))
 }
 
 fn is_given(command: &Command, param: Param) -> bool

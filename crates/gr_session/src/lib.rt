@@ -4,10 +4,9 @@
 mod asked;
 mod checks;
 mod commands;
-mod faults;
 mod fixed;
 mod form;
-mod numbers;
+mod parsed;
 mod reply;
 mod session;
 mod solo;

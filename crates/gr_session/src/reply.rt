@@ -31,14 +31,14 @@ pub(crate) fn success(alloc: Global, body: Body) -> Result<Bytes, NoMemory>
     ended(alloc, line, body)
 }
 
-// The reply to a select that prints this block.
-pub(crate) fn success_with(alloc: Global, block: &Bytes) -> Result<Bytes, NoMemory>
-    ensures { IfOk result (λ text. text ≡ success_line (bracketed (block.now ∷ []))) }
+// The reply to a select with this body.
+pub(crate) fn success_with(alloc: Global, body: &Bytes) -> Result<Bytes, NoMemory>
+    ensures { IfOk result (λ text. text ≡ success_line body.now) }
 {
-    let room = block.as_slice().len().saturating_add(FRAME);
-    let mut line = begun(alloc, room, b"[[0],[")?;
-    line.extend_from_slice(block.as_slice())?;
-    line.extend_from_slice(b"]]\n")?;
+    let room = body.as_slice().len().saturating_add(FRAME);
+    let mut line = begun(alloc, room, b"[[0],")?;
+    line.extend_from_slice(body.as_slice())?;
+    line.extend_from_slice(b"]\n")?;
     Bytes::from_vec(alloc, line)
 }
 

@@ -56,6 +56,9 @@ pub struct Session {
 }
 
 impl Model for Session {
+    ghost use Rattle.gr_ast.specs.contracts.ast.Ast as ast;
+    ghost use Rattle.gr_db.specs.contracts.shared_expr.SharedExpr as shared;
+    ghost use Rattle.std.specs.Coded.{codes};
     ghost use Rattle.std.specs.Prelude.{is_none};
     ghost use Rattle.std.specs.Option.{option_map};
     ghost use Rattle.gr_session.specs.Inside.Kept.{seen};
@@ -63,6 +66,8 @@ impl Model for Session {
     ghost use Rattle.gr_session.specs.Step.{Standing};
 
     ghost Value = { Standing };
+
+    ghost coded = { Prim.hlevel (codes, ast.the_row.coded, shared.the_row.coded) };
 
     ghost view = { λ s. record {
       limits = s.limits;
@@ -148,7 +153,8 @@ impl Session {
         requires item { IsItem item }
         requires running { self.now.ended ≡ false }
         ensures between { IfOk result IsBetween }
-        ensures begun { IfOk result (λ command. seen command ≡ begun (arc_value root.now) item) }
+        ensures begun { IfOk result (λ command. seen command ≡ begun (arc_value root.now) command.parsed) }
+        ensures item { IfOk result (λ command. command.parsed.item ≡ item) }
     {
         match &self.spare {
             Some(spare) => UnderWay::begin(alloc, root, item, spare),
@@ -226,8 +232,15 @@ impl Session {
         requires countable { self.old.command < 2 ^ 64 - 1 }
         ensures { IsFinished self.new (gone_on self.old mark true) (length (arc_value command.root).journal) mark command.starved result }
     {
-        self.spare = None;
+        self.end();
         self.finish(command.from(), mark, command.starved)
+    }
+
+    // Ends the session.
+    fn end(&mut self)
+        ensures { self.new ≡ record self.old { ended = true } }
+    {
+        self.spare = None;
     }
 
     // Ends a command with this reply.

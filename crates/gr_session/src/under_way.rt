@@ -10,6 +10,7 @@ ghost use Rattle.gr_session.specs.declared.form.Form.{Form};
 
 use crate::commands::asked_of;
 use crate::form::Form;
+use crate::parsed::Parsed;
 use gr_base::{Bytes, Fault, NoMemory};
 use gr_cmdline::Item;
 use gr_db::Change;
@@ -61,7 +62,7 @@ impl Spare {
 #[derive(Drop)]
 pub(crate) struct UnderWay {
     root: Arc<Root>,
-    item: Item,
+    parsed: Parsed,
     form: Form,
     // The changes that are still to be asked for, the next one last.
     changes: Vec<Change>,
@@ -86,17 +87,19 @@ impl UnderWay {
         requires item { IsItem item }
         requires spare { IsSpare spare.now }
         ensures between { IfOk result IsBetween }
-        ensures begun { IfOk result (λ command. seen command ≡ begun (arc_value root.now) item) }
+        ensures begun { IfOk result (λ command. seen command ≡ begun (arc_value root.now) command.parsed) }
+        ensures item { IfOk result (λ command. command.parsed.item ≡ item) }
     {
         let root = Arc::try_clone(root)?;
-        let form = Form::of(alloc, &item)?;
-        let asked = asked_of(alloc, &root, &item)?;
+        let parsed = Parsed::of(alloc, item)?;
+        let form = Form::of(alloc, &parsed.item)?;
+        let asked = asked_of(alloc, &root, &parsed)?;
         let starved = spare.of(&form).try_clone()?;
         let starved_then = spare.of(&form).try_clone()?;
         Ok(UnderWay {
             reached: root.journal().len(),
             root,
-            item,
+            parsed,
             form,
             changes: asked.changes,
             answer: asked.answer,

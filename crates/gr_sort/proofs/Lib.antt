@@ -1,6 +1,6 @@
 mod KeptLemmas
-mod KeyLemmas
-mod OrderLemmas
+pub mod KeyLemmas
+pub mod OrderLemmas
 mod RowLemmas
-mod TotalLemmas
+pub mod TotalLemmas
 mod WindowLemmas

@@ -53,11 +53,11 @@ literal_total =
     subst IsTotalOrder (λ i x y. as_parts x y i)
     (then_total (on_total kind nat_cmp_total) (then_total (on_total truth_of bool_cmp_total) (then_total (on_total number_of int_cmp_total) (on_total text_of nat_list_cmp_total))))
 
-worth_total : IsTotalOrder worth_cmp
+pub worth_total : IsTotalOrder worth_cmp
 worth_total = options_total literal_total
 
 -- an order that is turned round is one
-turned_total : {K : Type 0} (descending : Bool) {R : K → K → Ordering} → IsTotalOrder R → IsTotalOrder (λ x y. turned descending (R x y))
+pub turned_total : {K : Type 0} (descending : Bool) {R : K → K → Ordering} → IsTotalOrder R → IsTotalOrder (λ x y. turned descending (R x y))
 turned_total false o = o
 turned_total true {R} o = subst IsTotalOrder (λ i x y. o.antisymm y x i) (back_total o)
 

@@ -33,8 +33,8 @@ fn by_key(key: &SortKey, left: Option<Value<'_>>, right: Option<Value<'_>>) -> O
     }
 }
 
-// Two values, of which no value is the lowest.
-fn compare_worths(left: Option<Value<'_>>, right: Option<Value<'_>>) -> Ordering
+/// Two values, of which no value is the lowest.
+pub fn compare_worths(left: Option<Value<'_>>, right: Option<Value<'_>>) -> Ordering
     ensures { result ≡ worth_cmp (worth left.entry) (worth right.entry) }
 {
     match (left, right) {

@@ -121,15 +121,15 @@ fn key_of(
     Ok(SortKey { item, descending })
 }
 
-// Whether a key has the sign that turns its order round.
-fn is_descending(text: &str) -> bool
+/// Whether a key has the sign that turns its order round.
+pub fn is_descending(text: &str) -> bool
     ensures { result ≡ is_descending text.now }
 {
     text.starts_with('-')
 }
 
-// What follows the sign of a key, where it has one.
-fn unsigned(text: &str) -> &str
+/// What follows the sign of a key, where it has one.
+pub fn unsigned(text: &str) -> &str
     ensures { result.now ≡ unsigned text.now }
 {
     match text.strip_prefix('-') {

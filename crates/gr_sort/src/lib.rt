@@ -11,6 +11,8 @@ mod sorting;
 mod tests;
 mod value;
 
-pub use keys::{SortKey, SortOrder, order};
+pub use compare::compare_worths;
+pub use keys::{SortKey, SortOrder, is_descending, order, unsigned};
 pub use law::order_keeps_and_sorts;
 pub use sorting::sorted;
+pub use value::{Value, key_value, path_value};

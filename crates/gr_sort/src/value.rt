@@ -16,7 +16,7 @@ use gr_values::{Cell, CellView, DataType, Field, Key, Path};
 
 /// A value that is read at a hit, lent.
 #[derive(Clone, Copy)]
-pub(crate) enum Value<'a> {
+pub enum Value<'a> {
     /// `true` or `false`.
     Truth(bool),
     /// A whole number.
@@ -39,8 +39,8 @@ pub(crate) fn item_value<'a, R: Rows>(
     }
 }
 
-// The value at a path, or no value.
-fn path_value<'a, R: Rows>(rows: &'a R, id: RecordId, path: &Path) -> Option<Value<'a>>
+/// The value at a path, or no value.
+pub fn path_value<'a, R: Rows>(rows: &'a R, id: RecordId, path: &Path) -> Option<Value<'a>>
     ensures { worth result ≡ path_worth (R.tables rows.now) id path.now }
 {
     match path.last {
@@ -126,7 +126,8 @@ fn key_or_none(of: DataType, key: Option<&Key>) -> Option<Value<'_>>
     }
 }
 
-fn key_value(key: &Key) -> Value<'_>
+/// A key as a value.
+pub fn key_value(key: &Key) -> Value<'_>
     ensures { literal result ≡ key_worth key.now }
 {
     match key {

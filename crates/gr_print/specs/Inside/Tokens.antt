@@ -36,9 +36,13 @@ field_tokens tables end path (Field.Column column) =
     given_tokens (Some path.shape.of)
     (given_of tables path.to (option_map_or (λ cell. cell) (option_and_then (λ end. cell_at tables (end_table path) end column) end) (default_of path.shape)))
 
+-- what stands at a path, read at a record
+abbrev pub path_tokens : List Records → RecordId → Path → List Token
+path_tokens tables id path = field_tokens tables (end_of tables id path) path path.last
+
 -- what a column shows of a hit
 abbrev pub item_tokens : List Records → Hit → OutItem → List Token
-item_tokens tables hit (At path) = field_tokens tables (end_of tables hit.0 path) path path.last
+item_tokens tables hit (At path) = path_tokens tables hit.0 path
 item_tokens tables hit Score = number (decimal hit.1) ∷ []
 
 -- what the columns show of a hit

@@ -8,7 +8,7 @@ use Rattle.gr_base.specs.declared.fault.Fault.{Fault}
 use Rattle.gr_base.specs.declared.fault.FaultKind.TheVariants.{TableFull}
 use Rattle.gr_base.specs.declared.numbers.TableNo.{TableNo}
 use Rattle.gr_db.specs.Db.{Db}
-use Rattle.gr_db.specs.Entry.{IsKeyFor}
+use Rattle.gr_db.specs.Keys.{IsKeyFor}
 use Rattle.gr_db.specs.Wants.{all_added, all_wanted, first_full, wanted}
 use Rattle.gr_db.specs.declared.want.Added.{Added}
 use Rattle.gr_db.specs.declared.want.Want.{Want}

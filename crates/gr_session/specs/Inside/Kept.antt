@@ -11,6 +11,7 @@ use Rattle.gr_db.specs.declared.entry.Change.{Change}
 use Rattle.gr_session.specs.Commands.{meaning_of}
 use Rattle.gr_session.specs.Inside.Forms.{IsLegible}
 use Rattle.gr_session.specs.Meaning.{Meaning, body_after, meaning_in}
+use Rattle.gr_session.specs.Parsed.{IsRead}
 use Rattle.gr_session.specs.ReplyText.{want_of_memory_line}
 use Rattle.gr_session.specs.Step.{Going}
 use Rattle.gr_session.specs.declared.asked.Asked.{Asked}
@@ -43,10 +44,11 @@ pub record Holds (all held : List Change) (count : ℕ) : Type 0 where
 
 -- what a command under way means, where it was read
 abbrev pub meant : UnderWay → Meaning
-meant command = meaning_of (replay (arc_value command.root).journal) command.item
+meant command = meaning_of (replay (arc_value command.root).journal) command.parsed
 
 -- a command under way, which no longer holds this many of its changes
 pub record IsKept (command : UnderWay) (count : ℕ) : Type 0 where
+  pub read : IsRead command.parsed.item command.parsed.texts
   pub fit : AllByRecursion (Fits (replay (arc_value command.root).journal)) (meant command).changes
   pub holds : Holds (meant command).changes command.changes.items count
   pub means : meant command ≡ meaning_in command.form (meant command).changes command.answer
@@ -65,7 +67,7 @@ pub record IsWaiting (command : UnderWay) : Type 0 where
 
 -- a command under way, as contracts see it
 abbrev pub seen : UnderWay → Going
-seen command = record { base = arc_value command.root; item = command.item; made = command.made; reached = command.reached }
+seen command = record { base = arc_value command.root; parsed = command.parsed; made = command.made; reached = command.reached }
 
 -- the command asks for its next change, which can be published, and waits
 pub record AsksFor (old new : UnderWay) (change : Change) : Type 0 where

@@ -1,38 +1,47 @@
-// `delete`: a record that is removed.
+// `delete`: records that are removed.
 ghost use Rattle.std.specs.Prelude.{◌≡◌, true, IfErr, IfOk, IfSome, IsUtf8, Some, is_some};
 ghost use Rattle.gr_base.specs.Failure.{Answers};
-ghost use Rattle.gr_cmdline.specs.Arguments.{AreTexts};
+ghost use Rattle.gr_cmdline.specs.Arguments.{AreTexts, value_of};
+ghost use Rattle.gr_cmdline.specs.declared.param.Param.TheVariants.{Id, Key};
 ghost use Rattle.gr_db.specs.Apply.{replay};
 ghost use Rattle.gr_db.specs.Db.{Db};
 ghost use Rattle.gr_db.specs.Entry.{IsWhich};
 ghost use Rattle.gr_schema.specs.Schema.{table_at};
 ghost use Rattle.gr_schema.specs.Wishes.{IsTold, home_of};
 ghost use Rattle.gr_schema.specs.declared.definition.TableDef.{TableDef};
-ghost use Rattle.gr_session.specs.Delete.{delete, delete_of, id_of_text, is_signed, name_given, which_in, which_of_id, which_of_key};
+ghost use Rattle.gr_select.specs.Texts.{AreMade};
+ghost use Rattle.gr_session.specs.Checks.{text_of};
+ghost use Rattle.gr_session.specs.Delete.{delete, delete_of, delete_which, id_of_text, is_signed, name_given, which_in, which_of, which_of_id, which_of_key};
 ghost use Rattle.gr_session.specs.Inside.Kept.{Asks};
 ghost use Rattle.gr_session.specs.declared.form.Form.TheVariants.{Naming};
 ghost use Rattle.gr_values.specs.Types.{is_key_type};
 
 use crate::asked::{Asked, one_change, refused};
 use crate::checks::text_of;
-use crate::faults::fault_named;
+use crate::commands::delete_found::{delete_found, lexicon_fault};
 use crate::form::Form;
-use crate::numbers::number_of;
 use gr_base::{Failure, Fault, FaultKind, NoMemory, RecordId, TableNo};
 use gr_cmdline::{Command, Param};
 use gr_db::{Change, Which};
 use gr_root::Root;
 use gr_schema::{Schema, TableDef};
+use gr_select::{Texts, fault_named, number_of};
 use gr_values::{DataType, key_of_text};
 use std::alloc::Global;
 
-pub(crate) fn delete(alloc: Global, root: &Root, command: &Command) -> Result<Asked, NoMemory>
-    requires { AreTexts command.now.args }
-    ensures { IfOk result (λ asked. let db = replay root.now.journal in Asks db (delete db command.now) asked) }
+pub(crate) fn delete(
+    alloc: Global,
+    root: &Root,
+    command: &Command,
+    texts: &Texts,
+) -> Result<Asked, NoMemory>
+    requires text { AreTexts command.now.args }
+    requires made { AreMade texts.now }
+    ensures { IfOk result (λ asked. let db = replay root.now.journal in Asks db (delete db command.now texts.now) asked) }
 {
     let name = text_of(command, Param::Table);
     match root.schema().table(name.as_bytes()) {
-        Some(table) => delete_from(alloc, root.schema(), table, command),
+        Some(table) => delete_from(alloc, root, table, command, texts),
         None => {
             let fault = fault_named(alloc, FaultKind::NoSuchTable, name)?;
             refused(alloc, &Form::Plain, &fault)
@@ -40,8 +49,27 @@ pub(crate) fn delete(alloc: Global, root: &Root, command: &Command) -> Result<As
     }
 }
 
-// A record of a table that is there.
+// Records of a table that is there: those that a filter finds, or the one that is named.
 fn delete_from(
+    alloc: Global,
+    root: &Root,
+    table: TableNo,
+    command: &Command,
+    texts: &Texts,
+) -> Result<Asked, NoMemory>
+    requires there { is_some (table_at (replay root.now.journal).schema table) ≡ true }
+    requires made { AreMade texts.now }
+    ensures { (home : TableDef) → table_at (replay root.now.journal).schema table ≡ Some home
+        → IfOk result (λ asked. let db = replay root.now.journal in Asks db (delete_of (Naming (name_given command.now)) db (Some (home_of table home)) command.now texts.now) asked) }
+{
+    match command.args.get(Param::Filter) {
+        Some(_) => delete_found(alloc, root, table, texts),
+        None => delete_named(alloc, root.schema(), table, command),
+    }
+}
+
+// The record that is named.
+fn delete_named(
     alloc: Global,
     schema: &Schema,
     table: TableNo,
@@ -49,7 +77,7 @@ fn delete_from(
 ) -> Result<Asked, NoMemory>
     requires { is_some (table_at schema.now table) ≡ true }
     ensures { (db : Db) (home : TableDef) → db.schema ≡ schema.now → table_at schema.now table ≡ Some home
-        → IfOk result (λ asked. Asks db (delete_of (Naming (name_given command.now)) (Some (home_of table home)) command.now) asked) }
+        → IfOk result (λ asked. Asks db (delete_which (Naming (name_given command.now)) table (which_in home command.now)) asked) }
 {
     let _sound = schema.indexes();
     match schema.def(table) {
@@ -62,7 +90,7 @@ fn delete_from(
     }
 }
 
-// The record that is named, by its key or, where none is given, by its id; none of a lexicon is.
+// The record that is named; none of a lexicon is.
 fn which(alloc: Global, home: &TableDef, command: &Command) -> Result<Which, Failure<Fault>>
     requires name { IsUtf8 home.now.name }
     requires key { IfSome home.now.key (λ of. is_key_type of ≡ true) }
@@ -70,12 +98,25 @@ fn which(alloc: Global, home: &TableDef, command: &Command) -> Result<Which, Fai
     ensures fits { IfOk result (IsWhich home.now) }
     ensures text { IfErr result IsTold }
 {
-    if home.tokenizer.is_some() {
-        let name = home.name.as_text();
-        return Err(Failure::Refused(fault_named(alloc, FaultKind::LexiconReadOnly, name)?));
+    match lexicon_fault(alloc, home)? {
+        Some(fault) => Err(Failure::Refused(fault)),
+        None => which_given(alloc, home.key, command),
     }
+}
+
+// The record that is named, by its key or, where none is given, by its id.
+fn which_given(
+    alloc: Global,
+    of: Option<DataType>,
+    command: &Command,
+) -> Result<Which, Failure<Fault>>
+    requires key { IfSome of (λ of. is_key_type of ≡ true) }
+    ensures exact { (home : TableDef) → home.key ≡ of → Answers result (which_of home (value_of command.now.args.given Key) (text_of command.now Id)) }
+    ensures fits { (home : TableDef) → home.key ≡ of → IfOk result (IsWhich home) }
+    ensures text { IfErr result IsTold }
+{
     match command.args.get(Param::Key) {
-        Some(text) => which_of_key(alloc, home.key, text),
+        Some(text) => which_of_key(alloc, of, text),
         None => which_of_id(alloc, text_of(command, Param::Id)),
     }
 }

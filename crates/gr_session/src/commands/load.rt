@@ -12,7 +12,6 @@ ghost use Rattle.gr_session.specs.Load.{changes_of, load, load_at, rows_line};
 
 use crate::asked::{Asked, refused};
 use crate::checks::text_of;
-use crate::faults::fault_named;
 use crate::form::Form;
 use crate::reply::{Body, refusal, success};
 use gr_base::{Bytes, Fault, FaultKind, NoMemory, TableNo};
@@ -21,6 +20,7 @@ use gr_db::Change;
 use gr_root::Root;
 use gr_rows::{Puts, rows};
 use gr_schema::Schema;
+use gr_select::fault_named;
 use std::alloc::Global;
 
 pub(crate) fn load(alloc: Global, root: &Root, command: &Command) -> Result<Asked, NoMemory>

@@ -2,9 +2,10 @@
 ghost use Rattle.std.specs.Prelude.{◌≡◌, ◌+◌, ◌-◌, ◌^◌, ◌≤◌, ◌<◌, None, false, length, IfOk, OnOk, OnSome};
 ghost use Rattle.gr_base.specs.Limits.{IsInRange};
 ghost use Rattle.gr_cmdline.specs.Commands.{IsItem};
+ghost use Rattle.gr_session.specs.Step.{Begins};
 
 use super::step_solo;
-use crate::{Done, Session};
+use crate::{Done, Session, Step};
 use gr_base::{Limits, SessionNo};
 use gr_cmdline::{Item, Next, Reader};
 use gr_publish::Solo;
@@ -56,6 +57,8 @@ fn step(alloc: Global, session: &mut Session, solo: &mut Solo, item: Item) -> Re
     ensures command { OnOk result (session.new.command ≡ session.old.command + 1) }
     ensures behind { OnOk result (session.new.mark ≤ length solo.new.journal) }
     ensures limits { OnOk result (session.new.limits ≡ solo.new.limits) }
+    ensures kept { OnOk result (solo.new.limits ≡ solo.old.limits) }
+    ensures begins { OnOk result (Begins solo.old.journal solo.new.journal) }
 {
     running(session).ok_or("the session has ended")?;
     let done = step_solo(alloc, session, solo, item);
@@ -70,14 +73,72 @@ fn run(rt: &impl Abort, alloc: Global, limits: Limits, cases: &[Case]) -> Result
 {
     let mut solo = Solo::new(alloc, limits)?;
     let mut session = Session::open(alloc, SessionNo(1), limits, 0)?;
+    run_on(rt, alloc, limits, &mut session, &mut solo, cases)
+}
+
+// Runs texts in a session that has run none.
+fn run_on(
+    rt: &impl Abort,
+    alloc: Global,
+    limits: Limits,
+    session: &mut Session,
+    solo: &mut Solo,
+    cases: &[Case],
+) -> Result<(), Fail>
+    requires limits { IsInRange limits }
+    requires few { length cases.now < 100 }
+    requires idle { session.old.going ≡ None }
+    requires none { session.old.command ≡ 0 }
+    requires behind { session.old.mark ≤ length solo.old.journal }
+    requires same { session.old.limits ≡ solo.old.limits }
+    ensures kept { OnOk result (solo.new.limits ≡ solo.old.limits) }
+{
     for (text, reply, from, mark) in cases {
         let item = item(alloc, limits, text)?;
-        let done = step(alloc, &mut session, &mut solo, item)?;
+        let done = step(alloc, session, solo, item)?;
         assert_eq!(rt; done.text.as_slice(), reply.as_bytes(), "of {text}");
         assert_eq!(rt; done.from, *from, "of {text}");
         assert_eq!(rt; done.mark, *mark, "of {text}");
     }
     Ok(())
+}
+
+// Runs a command of another session between the one entry that a command asks for and its answer.
+fn around(
+    alloc: Global,
+    solo: &mut Solo,
+    session: &mut Session,
+    outer: Item,
+    other: &mut Session,
+    inner: Item,
+) -> Result<Done, Fail>
+    requires outer { IsItem outer }
+    requires inner { IsItem inner }
+    requires idle { session.old.going ≡ None }
+    requires countable { session.old.command < 2 ^ 64 - 1 }
+    requires behind { session.old.mark ≤ length solo.old.journal }
+    requires limits { session.old.limits ≡ solo.old.limits }
+    requires other_idle { other.old.going ≡ None }
+    requires other_countable { other.old.command < 2 ^ 64 - 1 }
+    requires other_behind { other.old.mark ≤ length solo.old.journal }
+    requires other_limits { other.old.limits ≡ solo.old.limits }
+    ensures kept { OnOk result (solo.new.limits ≡ solo.old.limits) }
+{
+    running(session).ok_or("the session has ended")?;
+    let _length = solo.pin().journal().len();
+    match session.begin(alloc, solo.pin(), outer) {
+        Step::Done(_) => Err(Fail::from("the command asks for no entry")),
+        Step::Publish(entry) => {
+            step(alloc, other, solo, inner)?;
+            let _length = solo.pin().journal().len();
+            let answer = solo.publish(alloc, entry);
+            let _length = solo.pin().journal().len();
+            match session.answered(alloc, answer) {
+                Step::Done(done) => Ok(done),
+                Step::Publish(_) => Err(Fail::from("the command asks for two entries")),
+            }
+        }
+    }
 }
 
 #[test]
@@ -180,14 +241,102 @@ fn a_wrong_fixed_parameter_is_told_before_all_else(rt: HostRuntime) -> Result<()
 }
 
 #[test]
-fn what_is_not_built_is_told_by_name(rt: HostRuntime) -> Result<(), Fail> {
-    let cases = [(
-        "select T --limit 1 --sortby _key",
-        "[[16,\"BadValue sort_keys\"],false]\n",
-        0,
-        0,
-    )];
+fn what_a_filter_finds_is_deleted(rt: HostRuntime) -> Result<(), Fail> {
+    let cases = [
+        ("table_create N TABLE_HASH_KEY UInt8", "[[0],true]\n", 0, 1),
+        (
+            "column_create N n COLUMN_SCALAR Int32",
+            "[[0],true]\n",
+            1,
+            2,
+        ),
+        ("load '[[1,1],[2,5],[3,9]]' N _key,n", "[[0],3]\n", 2, 5),
+        (
+            "select N --sort_keys -n --output_columns n --limit 1 --drilldown n --drilldown_limit 1",
+            "[[0],[[[3],[[\"n\",\"Int32\"]],[9]],[[3],[[\"_key\",\"Int32\"],[\"_nsubrecs\",\"Int32\"]],[9,1]]]]\n",
+            5,
+            5,
+        ),
+        ("delete N --filter 'n > 3'", "[[0],true]\n", 5, 7),
+        (
+            "select N --output_columns n",
+            "[[0],[[[1],[[\"n\",\"Int32\"]],[1]]]]\n",
+            7,
+            7,
+        ),
+        ("delete N --filter 'n > 3'", "[[0],true]\n", 7, 7),
+        (
+            "delete N --filter 'n >'",
+            "[[28,\"BadScript at 3 filter\"],false]\n",
+            7,
+            7,
+        ),
+        (
+            "delete N --key 1 --filter 'n > 3'",
+            "[[16,\"BadValue filter\"],false]\n",
+            7,
+            7,
+        ),
+    ];
     run(&rt, rt.alloc(), Limits::default(), &cases)
+}
+
+#[test]
+fn a_record_that_no_longer_fits_stays(rt: HostRuntime) -> Result<(), Fail> {
+    let (alloc, limits) = (rt.alloc(), Limits::default());
+    let mut solo = Solo::new(alloc, limits)?;
+    let mut first = Session::open(alloc, SessionNo(1), limits, 0)?;
+    let cases = [
+        ("table_create N TABLE_HASH_KEY UInt8", "[[0],true]\n", 0, 1),
+        (
+            "column_create N n COLUMN_SCALAR Int32",
+            "[[0],true]\n",
+            1,
+            2,
+        ),
+        ("load '[[1,1],[2,5]]' N _key,n", "[[0],2]\n", 2, 4),
+    ];
+    run_on(&rt, alloc, limits, &mut first, &mut solo, &cases)?;
+    let mut second = Session::open(alloc, SessionNo(2), limits, 0)?;
+    let mut third = Session::open(alloc, SessionNo(3), limits, 0)?;
+    let outer = item(alloc, limits, "delete N --filter 'n > 3'")?;
+    let inner = item(alloc, limits, "load '[[2,1]]' N _key,n")?;
+    let done = around(alloc, &mut solo, &mut second, outer, &mut third, inner)?;
+    assert_eq!(&rt; done.text.as_slice(), "[[0],true]\n".as_bytes());
+    assert_eq!(&rt; (done.from, done.mark), (4, 6));
+    let mut fourth = Session::open(alloc, SessionNo(4), limits, 0)?;
+    let after = [(
+        "select N --output_columns n",
+        "[[0],[[[2],[[\"n\",\"Int32\"]],[1],[1]]]]\n",
+        6,
+        6,
+    )];
+    run_on(&rt, alloc, limits, &mut fourth, &mut solo, &after)
+}
+
+#[test]
+fn a_full_journal_ends_a_deletion(rt: HostRuntime) -> Result<(), Fail> {
+    let limits = Limits {
+        journal: 4,
+        ..Limits::default()
+    };
+    let cases = [
+        ("table_create N TABLE_HASH_KEY UInt8", "[[0],true]\n", 0, 1),
+        ("load '[[1],[2]]' N _key", "[[0],2]\n", 1, 3),
+        (
+            "delete N --filter true",
+            "[[35,\"JournalFull\"],false]\n",
+            3,
+            4,
+        ),
+        (
+            "select N --output_columns _id",
+            "[[0],[[[1],[[\"_id\",\"UInt32\"]],[2]]]]\n",
+            4,
+            4,
+        ),
+    ];
+    run(&rt, rt.alloc(), limits, &cases)
 }
 
 #[test]

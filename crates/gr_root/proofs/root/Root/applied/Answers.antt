@@ -6,10 +6,17 @@ use Rattle.gr_db.specs.Changed.{Place}
 use Rattle.gr_db.specs.Entry.{IsValid}
 use Rattle.gr_db.specs.declared.entry.Entry.{Entry}
 use Rattle.gr_root.specs.Inside.Make.{IsMade, Makes}
+use Rattle.gr_root.specs.Inside.Walk.{db_of}
 use Rattle.gr_root.specs.Root.{Rooted}
 use Rattle.gr_schema.specs.Sound.{IsSound as IsSoundSchema}
 use Rattle.gr_root.proofs.AppliedLemmas.{change-refused, entry-applied, has-room, is-full, journal-refused, sound-pushed, state-columns, state-counted, state-long, state-tables}
+use Rattle.gr_root.proofs.GoodLemmas.{good-fitting}
 use Rattle.gr_root.proofs.root.Root.applied.Goals as goal
+
+pub made-requires-clause-fitting : goal.made-requires-clause-fitting
+made-requires-clause-fitting c =
+    let root = c.self.inside in
+    good-fitting (db_of root.schema root.tables) (subst IsSoundSchema c.get.ensures c.tell_sound.ensures) c.self.invariant.good
 
 pub made-requires-clause-few_tables : goal.made-requires-clause-few_tables
 made-requires-clause-few_tables c = state-tables c.self.inside c.self.invariant

@@ -14,4 +14,4 @@ returns-in-Err c =
     let told : c.args.command.starved ≡ (meant c.args.command).starved c.args.command.made =
     c.requires.waiting.kept.starved ∙ ap (λ (meaning : Meaning). meaning.starved c.args.command.made) (sym c.requires.waiting.kept.means) in
     Stops-starved c.args.self.now c.starve.new.self (seen c.args.command) c.args.fault _ c.args.mark c.args.command.starved c.starve.result
-    c.starve.ensures refl (omega arith) told
+    c.starve.ensures refl (omega arith) c.requires.waiting.kept.read told

@@ -17,6 +17,7 @@ returns-in_ok-self-in-Some c =
       fits = Holds-fit (Fits (replay (arc_value command.root).journal)) all held left c.in-Some.change command.made c.requires.holds c.in-Some.ensures.items c.requires.fit;
       waits = record {
         kept = record {
+          read = c.requires.read;
           fit = c.requires.fit;
           holds = Holds-pop all held left c.in-Some.change command.made c.requires.holds c.in-Some.ensures.items;
           means = c.requires.means;

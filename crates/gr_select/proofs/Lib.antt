@@ -1,0 +1,2 @@
+mod BlocksLemmas
+mod FittingLemmas

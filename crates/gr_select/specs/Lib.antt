@@ -1,0 +1,5 @@
+pub mod Texts
+pub mod Condition
+pub mod Numbers
+pub mod Select
+pub mod Inside

@@ -1,8 +1,0 @@
-use Rattle.gr_db.specs.Apply.{replay}
-use Rattle.gr_expr.specs.Tables.{records_of}
-use Rattle.gr_session.proofs.SelectLemmas.{IsCounted}
-use Rattle.gr_session.proofs.commands.select.count.Given as goal
-
--- the records seen so far
-abbrev pub invariant-loop-seen : goal.invariant-loop-seen
-invariant-loop-seen l = IsCounted (records_of (replay l.root.journal).tables l.table) l.seen l.found
